@@ -1,0 +1,3 @@
+-- Laws of a cell's fields.
+pub mod Steps
+pub mod Outcomes

@@ -1,0 +1,3 @@
+-- Laws of the encoder.
+pub mod Answers
+pub mod Outcomes

@@ -1,0 +1,61 @@
+-- Runs of bytes, one byte at a time.
+use mathlib.Core.Path.{_≡_, refl, sym, ap, _∙_}
+use mathlib.Core.Bool.{true}
+use mathlib.Core.List.{List, [], _∷_, _++_, append-nil}
+use Prim.Native.Nat.{ℕ, zero, suc, _+_, _<_, _≤_}
+use native.Mathlib.Nat.{le-of-suc-le-suc}
+use native.Mathlib.Omega.{arith}
+use lib.Bits.{bitXor}
+use lib.Dec.{eqb}
+use lib.ListN.{length, getD, set, take, drop, replicate, length-replicate, getD-replicate}
+use lib.Seq.{ext-getD, take-all}
+use borrow.Author.Tests.{eqb-true}
+use Rattle.laws.specs.Xor.{xorBytes}
+use Rattle.laws.proofs.Upto.{all-at, all-yes}
+use Rattle.fields.specs.Field.{allZero}
+
+-- the first k bytes of s XORed with those of key, the rest as it was: what the loop holds after k turns
+unfoldable pub xorUpto : ℕ → List ℕ → List ℕ → List ℕ
+xorUpto k s key = xorBytes (take k s) (take k key) ++ drop k s
+
+pub xor-none : (s key : List ℕ) → xorUpto 0 s key ≡ s
+unfolding xorUpto xorBytes
+xor-none s key = refl
+
+pub xor-turn : (k : ℕ) (s key : List ℕ) → k < length s → k < length key
+    → set (xorUpto k s key) k (bitXor (getD (xorUpto k s key) k 0) (getD key k 0)) ≡ xorUpto (suc k) s key
+unfolding xorUpto xorBytes
+xor-turn k [] key p q = absurd (omega arith)
+xor-turn k (x ∷ s) [] p q = absurd (omega arith)
+xor-turn zero (x ∷ s) (y ∷ key) p q = refl
+xor-turn (suc k) (x ∷ s) (y ∷ key) p q = ap (bitXor x y ∷_) (xor-turn k s key (le-of-suc-le-suc p) (le-of-suc-le-suc q))
+
+pub xor-whole : (k : ℕ) (s key : List ℕ) → length s ≤ k → length key ≤ k → xorUpto k s key ≡ xorBytes s key
+unfolding xorUpto
+xor-whole k s key p q = rw (take-all k s p, take-all k key q, lib.ListN.drop-of-length-le s p) (append-nil (xorBytes s key))
+
+-- the first k bytes copied
+pub copy-turn : (k : ℕ) (s bytes : List ℕ) → k < length s → k < length bytes
+    → set (take k bytes ++ drop k s) k (getD bytes k 0) ≡ take (suc k) bytes ++ drop (suc k) s
+copy-turn k [] bytes p q = absurd (omega arith)
+copy-turn k (x ∷ s) [] p q = absurd (omega arith)
+copy-turn zero (x ∷ s) (y ∷ bytes) p q = refl
+copy-turn (suc k) (x ∷ s) (y ∷ bytes) p q = ap (y ∷_) (copy-turn k s bytes (le-of-suc-le-suc p) (le-of-suc-le-suc q))
+
+pub clear-turn : (k : ℕ) (s : List ℕ) → k < length s → set (replicate k 0 ++ drop k s) k 0 ≡ replicate (suc k) 0 ++ drop (suc k) s
+clear-turn k [] p = absurd (omega arith)
+clear-turn zero (x ∷ s) p = refl
+clear-turn (suc k) (x ∷ s) p = ap (0 ∷_) (clear-turn k s (le-of-suc-le-suc p))
+
+-- zero bytes are zeros
+pub zero-is : (s : List ℕ) → allZero s ≡ true → s ≡ replicate (length s) 0
+unfolding allZero
+zero-is s h =
+    ext-getD 0 s (replicate (length s) 0) (sym (length-replicate (length s) 0))
+    (λ i l. eqb-true (getD s i 0) 0 (all-at (length s) (λ j. eqb (getD s j 0) 0) h i l) ∙ sym (getD-replicate (length s) i 0 0 l))
+
+pub zeros-zero : (n : ℕ) → allZero (replicate n 0) ≡ true
+unfolding allZero
+zeros-zero n =
+    all-yes (length (replicate n 0)) (λ i. eqb (getD (replicate n 0) i 0) 0)
+    (λ i l. ap (λ x. eqb x 0) (getD-replicate n i 0 0 (rw (length-replicate {A = ℕ} n 0) at l)))

@@ -1,0 +1,21 @@
+-- Fields of byte lists: 01 'Blocks of 512 bytes', "Numbers are high byte first".
+use mathlib.Core.Bool.{Bool}
+use mathlib.Core.List.{List}
+use Prim.Native.Nat.{ℕ}
+use lib.Dec.{eqb}
+use lib.ListN.{length, getD, take, drop}
+use lib.Seq.{sets}
+use Rattle.laws.specs.BigEndian.{bytesOf, numberOf}
+use Rattle.laws.specs.Upto.{allUpto}
+
+-- the number in the n bytes from place `at` on
+unfoldable pub field : ℕ → List ℕ → ℕ → ℕ
+field n s at = numberOf (take n (drop at s))
+
+-- the list with a number in the n bytes from place `at` on
+unfoldable pub withField : ℕ → List ℕ → ℕ → ℕ → List ℕ
+withField n s at x = sets s at (bytesOf n x)
+
+-- every byte is zero
+unfoldable pub allZero : List ℕ → Bool
+allZero s = allUpto (length s) (λ i. eqb (getD s i 0) 0)

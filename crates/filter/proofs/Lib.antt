@@ -1,0 +1,3 @@
+-- Laws of the filter.
+pub mod Held
+pub mod Outcomes

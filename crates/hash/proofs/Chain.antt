@@ -1,0 +1,110 @@
+-- Absorbing byte by byte; a place is below n.
+use mathlib.Core.Path.{_≡_, refl, sym, ap, _∙_}
+use mathlib.Core.List.{List, [], _∷_, _++_}
+use Prim.Native.Nat.{ℕ, _+_, _*_, _/_, _%_, _^_, _<_, _≤_}
+use native.Mathlib.Nat.{div-one, mul-comm, div-lt-iff-lt-mul, mul-lt-mul-of-pos-right, mul-le-mul}
+use native.Mathlib.Numerals.{add-one}
+use native.Mathlib.Omega.{arith}
+use lib.ListN.{length, drop, getD, drop-of-length-le}
+use lib.Seq.{drop-cons}
+use lib.Bits.{bitXor}
+use lib.Pow.{pow-pos}
+use Rattle.laws.specs.BigEndian.{bytesOf}
+use Rattle.laws.specs.Upto.{listUpto}
+use Rattle.hash.specs.Fnv.{step, absorb, basis, hashOf, seeded, place}
+use Rattle.hash.specs.Lanes.{absorbAll}
+
+-- a list is absorbed part by part
+pub absorb-append : (s t : List ℕ) (h : ℕ) → absorb h (s ++ t) ≡ absorb (absorb h s) t
+unfolding absorb
+absorb-append [] t h = refl
+absorb-append (b ∷ s) t h = absorb-append s t (step h b)
+
+-- the key is absorbed after salt, role and index
+pub hash-seeded : (salt role i : ℕ) (key : List ℕ) → absorb (seeded salt role i) key ≡ hashOf salt role i key
+unfolding hashOf seeded absorb
+hash-seeded salt role i key =
+    ap (λ h. absorb h key) (absorb-append (bytesOf 4 salt) (role ∷ i ∷ []) _) ∙ sym (absorb-append (bytesOf 4 salt) (role ∷ i ∷ key) _)
+
+-- one byte more of a list
+pub absorb-more : (h : ℕ) (s : List ℕ) (i : ℕ) → i < length s → absorb h (drop i s) ≡ absorb (step h (getD s i 0)) (drop (i + 1) s)
+unfolding absorb
+absorb-more h s i p = rw (add-one, drop-cons s i 0)
+
+-- past the end there is nothing to absorb
+pub absorb-none : (h : ℕ) (s : List ℕ) (i : ℕ) → length s ≤ i → absorb h (drop i s) ≡ h
+unfolding absorb
+absorb-none h s i p = rw drop-of-length-le
+
+pub all-then : (hs : List ℕ) (b : ℕ) (s : List ℕ) → absorbAll (absorbAll hs (b ∷ [])) s ≡ absorbAll hs (b ∷ s)
+unfolding absorbAll absorb
+all-then [] b s = refl
+all-then (h ∷ hs) b s = ap (absorb (step h b) s ∷_) (all-then hs b s)
+
+pub all-more : (hs : List ℕ) (s : List ℕ) (i : ℕ) → i < length s → absorbAll hs (drop i s) ≡ absorbAll (absorbAll hs (getD s i 0 ∷ []))
+    (drop (i + 1) s)
+all-more hs s i p = rw (add-one, all-then, drop-cons s i 0)
+
+all-nothing : (hs : List ℕ) → absorbAll hs [] ≡ hs
+unfolding absorbAll absorb
+all-nothing [] = refl
+all-nothing (h ∷ hs) = ap (h ∷_) (all-nothing hs)
+
+pub all-none : (hs : List ℕ) (s : List ℕ) (i : ℕ) → length s ≤ i → absorbAll hs (drop i s) ≡ hs
+all-none hs s i p = rw (drop-of-length-le s p) (all-nothing hs)
+
+-- states are below 2 ^ 32
+pub step-lt : (h b : ℕ) → step h b < 2 ^ 32
+unfolding step
+step-lt h b = let x : ℕ = bitXor h b * 16777619 in omega arith
+
+pub absorb-lt : (s : List ℕ) (h : ℕ) → h < 2 ^ 32 → absorb h s < 2 ^ 32
+unfolding absorb
+absorb-lt [] h p = p
+absorb-lt (b ∷ s) h p = absorb-lt s (step h b) (step-lt h b)
+
+pub hash-lt : (salt role i : ℕ) (key : List ℕ) → hashOf salt role i key < 2 ^ 32
+unfolding hashOf
+hash-lt salt role i key = absorb-lt (bytesOf 4 salt ++ (role ∷ i ∷ key)) 2166136261 (omega arith)
+
+pub place-lt : (h n : ℕ) → h < 2 ^ 32 → 0 < n → place h n < n
+unfolding place
+place-lt h n p q = div-lt-iff-lt-mul (pow-pos 32) .1 (rw (mul-comm n (2 ^ 32)) (mul-lt-mul-of-pos-right p q))
+
+-- the product of two numbers of 32 bits fits 64
+pub product-lt : (a b : ℕ) → a < 2 ^ 32 → b < 2 ^ 32 → a * b < 2 ^ 64
+product-lt a b p q =
+    let le : a * b ≤ 4294967295 * 4294967295 = mul-le-mul {n₂ = 4294967295} {m₂ = 4294967295} (omega arith) (omega arith) in
+    omega arith
+
+-- four bytes of a number, one by one
+pub absorb-word : (h x : ℕ) {a b c d : ℕ} → a ≡ step h (x / 2 ^ 24 % 256) → b ≡ step a (x / 2 ^ 16 % 256) → c ≡ step b (x / 2 ^ 8 % 256)
+    → d ≡ step c (x % 256) → d ≡ absorb h (bytesOf 4 x)
+unfolding absorb bytesOf
+absorb-word h x p q r s = rw (s, r, q, p)
+    (ap (λ y. step (step (step (step h (x / 2 ^ 24 % 256)) (x / 2 ^ 16 % 256)) (x / 2 ^ 8 % 256)) (y % 256)) (sym (div-one x)))
+
+-- salt, role and index, one after the other
+pub seeded-steps : (salt role i : ℕ) {a b c : ℕ} → a ≡ absorb basis (bytesOf 4 salt) → b ≡ step a role → c ≡ step b i → c ≡ seeded salt role i
+unfolding absorb seeded
+seeded-steps salt role i p q r = rw (r, q, p) (sym (absorb-append (bytesOf 4 salt) (role ∷ i ∷ []) basis))
+
+-- each chain one byte on
+pub all-four : (h₀ h₁ h₂ h₃ b : ℕ) {a₀ a₁ a₂ a₃ : ℕ} → a₀ ≡ step h₀ b → a₁ ≡ step h₁ b → a₂ ≡ step h₂ b → a₃ ≡ step h₃ b
+    → (a₀ ∷ a₁ ∷ a₂ ∷ a₃ ∷ []) ≡ absorbAll (h₀ ∷ h₁ ∷ h₂ ∷ h₃ ∷ []) (b ∷ [])
+unfolding absorbAll absorb
+all-four h₀ h₁ h₂ h₃ b p q r s = rw (p, q, r, s)
+
+-- four hashes from four seeded chains
+pub all-hashed : (salt role first : ℕ) (key : List ℕ) {hs : List ℕ} → hs ≡ listUpto 4 (λ i. seeded salt role (first + i))
+    → absorbAll hs key ≡ listUpto 4 (λ i. hashOf salt role (first + i) key)
+unfolding listUpto absorbAll
+all-hashed salt role first key e =
+    rw (
+      e,
+      hash-seeded salt role (first + 0) key,
+      hash-seeded salt role (first + 1) key,
+      hash-seeded salt role (first + 2) key,
+      hash-seeded salt role
+          (first + 3) key,
+    )

@@ -1,0 +1,56 @@
+-- Any two outcomes that the contract of a public function allows are identical. The contracts are those of src/, as the checker reads them.
+use mathlib.Core.Path.{_≡_, refl, sym, _∙_}
+use Rattle.laws.specs.Outcomes.{Determined}
+use Rattle.hash.proofs.Fnv.new.Kinds as fnv-new-kinds
+use Rattle.hash.proofs.Fnv.new.Reads as fnv-new
+use Rattle.hash.proofs.Fnv.byte.Kinds as fnv-byte-kinds
+use Rattle.hash.proofs.Fnv.byte.Reads as fnv-byte
+use Rattle.hash.proofs.Fnv.word.Kinds as fnv-word-kinds
+use Rattle.hash.proofs.Fnv.word.Reads as fnv-word
+use Rattle.hash.proofs.Fnv.bytes.Kinds as fnv-bytes-kinds
+use Rattle.hash.proofs.Fnv.bytes.Reads as fnv-bytes
+use Rattle.hash.proofs.Fnv.seeded.Kinds as fnv-seeded-kinds
+use Rattle.hash.proofs.Fnv.seeded.Reads as fnv-seeded
+use Rattle.hash.proofs.place.Kinds as place-kinds
+use Rattle.hash.proofs.place.Reads as place
+use Rattle.hash.proofs.cells_of.Kinds as cells-of-kinds
+use Rattle.hash.proofs.cells_of.Reads as cells-of
+use Rattle.hash.proofs.bits_of.Kinds as bits-of-kinds
+use Rattle.hash.proofs.bits_of.Reads as bits-of
+use Rattle.hash.specs.declared.Fnv.{Fnv}
+use Rattle.hash.specs.declared.Cells.{Cells}
+use Rattle.hash.specs.declared.Bits.{Bits}
+
+-- a struct of one field is that field
+state-alone : (x y : Fnv) → x .state ≡ y .state → x ≡ y
+state-alone x y e = λ i. record { state = e i }
+
+cells-alone : (x y : Cells) → x .at ≡ y .at → x ≡ y
+cells-alone x y e = λ i. record { at = e i }
+
+bits-alone : (x y : Bits) → x .at ≡ y .at → x ≡ y
+bits-alone x y e = λ i. record { at = e i }
+
+pub fnv-new-determined : Determined _ fnv-new-kinds.ps fnv-new-kinds.r fnv-new.Asked fnv-new.Learnt
+fnv-new-determined κs a p z z′ ws ws′ e e′ = (state-alone z z′ (e ∙ sym e′), refl)
+
+pub fnv-byte-determined : Determined _ fnv-byte-kinds.ps fnv-byte-kinds.r fnv-byte.Asked fnv-byte.Learnt
+fnv-byte-determined κs a p z z′ ws ws′ e e′ = (state-alone z z′ (e ∙ sym e′), refl)
+
+pub fnv-word-determined : Determined _ fnv-word-kinds.ps fnv-word-kinds.r fnv-word.Asked fnv-word.Learnt
+fnv-word-determined κs a p z z′ ws ws′ e e′ = (state-alone z z′ (e ∙ sym e′), refl)
+
+pub fnv-bytes-determined : Determined _ fnv-bytes-kinds.ps fnv-bytes-kinds.r fnv-bytes.Asked fnv-bytes.Learnt
+fnv-bytes-determined κs a p z z′ ws ws′ e e′ = (state-alone z z′ (e ∙ sym e′), refl)
+
+pub fnv-seeded-determined : Determined _ fnv-seeded-kinds.ps fnv-seeded-kinds.r fnv-seeded.Asked fnv-seeded.Learnt
+fnv-seeded-determined κs a p z z′ ws ws′ e e′ = (state-alone z z′ (e ∙ sym e′), refl)
+
+pub place-determined : Determined _ place-kinds.ps place-kinds.r place.Asked place.Learnt
+place-determined κs a p z z′ ws ws′ e e′ = (e ∙ sym e′, refl)
+
+pub cells-of-determined : Determined _ cells-of-kinds.ps cells-of-kinds.r cells-of.Asked cells-of.Learnt
+cells-of-determined κs a p z z′ ws ws′ e e′ = (cells-alone z z′ (e ∙ sym e′), refl)
+
+pub bits-of-determined : Determined _ bits-of-kinds.ps bits-of-kinds.r bits-of.Asked bits-of.Learnt
+bits-of-determined κs a p z z′ ws ws′ e e′ = (bits-alone z z′ (e ∙ sym e′), refl)

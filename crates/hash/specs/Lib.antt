@@ -1,0 +1,4 @@
+-- What the crate's contracts cite.
+pub mod Fnv
+pub mod Lanes
+pub mod Places

@@ -1,0 +1,91 @@
+-- Cells in blocks: the zero byte of every cell, block by block, and payloads that the cells leave partly unused.
+use mathlib.Core.Path.{_≡_, sym, ap, _∙_}
+use mathlib.Core.Bool.{true, false}
+use mathlib.Core.List.{List, _++_}
+use Prim.Native.Nat.{ℕ, _+_, _-_, _*_, _≤_, _<_}
+use native.Mathlib.Nat.{add-mul, add-assoc, mul-assoc}
+use native.Mathlib.Omega.{arith}
+use borrow.Author.Tests.{eq-eqb, ne-eqb}
+use lib.Dec.{eqb}
+use lib.ListN.{length, getD, take, drop, replicate, length-drop, take-append-drop}
+use lib.Seq.{take-at, drop-at, getD-take, length-take-le}
+use Rattle.laws.specs.Upto.{allUpto, joinUpto}
+use Rattle.laws.proofs.Bools.{and-i}
+use Rattle.laws.proofs.Lists.{length-part}
+use Rattle.laws.proofs.Upto.{all-same, all-no, all-more}
+use Rattle.layout.specs.declared.Layout.{Layout}
+use Rattle.layout.specs.declared.Sizes.{Sizes}
+use Rattle.layout.specs.Sizes.{Lays, tableCells, blocks}
+use Rattle.fields.specs.Field.{allZero}
+use Rattle.fields.proofs.Runs.{zero-is, zeros-zero}
+use Rattle.image.specs.Block.{padded}
+use Rattle.image.specs.Seal.{zeroBytes}
+use Rattle.image.specs.Read.{blockAt, cellsFormed}
+use Rattle.image.proofs.Stores.{table-rows}
+use Rattle.laws.proofs.Rows.{row-within, all-rows, join-at}
+
+-- a payload is the part that is used, padded
+pub padded-back : (w : ℕ) (part : List ℕ) → length part ≡ w → take w (padded part) ≡ part
+unfolding padded
+padded-back w part h = take-at part (replicate (480 - length part) 0) w h
+
+drop-padded : (w : ℕ) (part : List ℕ) → length part ≡ w → drop w (padded part) ≡ replicate (480 - length part) 0
+unfolding padded
+drop-padded w part h = drop-at part (replicate (480 - length part) 0) w h
+
+pub padded-only : (w : ℕ) (payload : List ℕ) → w ≤ 480 → length payload ≡ 480 → allZero (drop w payload) ≡ true → payload ≡ padded (take w payload)
+unfolding padded
+padded-only w payload h p zeros =
+    let k = length-take-le w payload (omega arith) in
+    let rest : length (drop w payload) ≡ 480 - length (take w payload) = rw (length-drop, k) (omega arith) in
+    sym (take-append-drop w payload) ∙ ap (λ s. take w payload ++ s) (zero-is (drop w payload) zeros ∙ ap (λ n. replicate n 0) rest)
+
+-- the used bytes of a payload are there
+pub used-long : (z : Sizes) (image : List ℕ) → length image ≡ blocks z * 512 → (n w : ℕ) → n < blocks z → w ≤ 480
+    → length (take w (drop 16 (blockAt image n))) ≡ w
+used-long z image whole n w h q = length-part (blockAt image n) 16 w (omega (arith, length-part image (n * 512) 512 (omega arith)))
+
+-- byte j of cell c of block m
+pub byte-place : (l : Layout) (m c j : ℕ) → (m * l .cells + c) * l .cell + j ≡ m * (l .cells * l .cell) + (c * l .cell + j)
+byte-place l m c j =
+    rw (add-mul (m * l .cells) c (l .cell), mul-assoc m (l .cells) (l .cell)) (add-assoc (m * (l .cells * l .cell)) (c * l .cell) j)
+
+-- the zero bytes, one cell at a time
+pub zero-no : (l : Layout) (n : ℕ) (s : List ℕ) (c : ℕ) → c < n → (getD s (c * l .cell + l .key) 0 ≡ 0 → ⊥) → false ≡ zeroBytes l n s
+unfolding zeroBytes
+zero-no l n s c h p = sym (all-no n (λ i. eqb (getD s (i * l .cell + l .key) 0) 0) c h (ne-eqb (getD s (c * l .cell + l .key) 0) 0 p))
+
+pub zero-more : (l : Layout) (s : List ℕ) (c : ℕ) → zeroBytes l c s ≡ true → getD s (c * l .cell + l .key) 0 ≡ 0 → zeroBytes l (c + 1) s ≡ true
+unfolding zeroBytes
+zero-more l s c h p =
+    all-more c (λ i. eqb (getD s (i * l .cell + l .key) 0) 0) ∙ rw h (eq-eqb (getD s (c * l .cell + l .key) 0) 0 p)
+
+module _ (l : Layout) (lays : Lays l) where
+  -- the zero byte of cell c lies in the cells
+  zero-within : (c : ℕ) → c < l .cells → c * l .cell + l .key < l .cells * l .cell
+  zero-within c h = omega (arith, lays .key-fits, row-within c (l .cells) (l .cell) h)
+
+  -- and so in the part of a payload that is used
+  pub zero-take : (s : List ℕ) → zeroBytes l (l .cells) (take (l .cells * l .cell) s) ≡ zeroBytes l (l .cells) s
+  unfolding zeroBytes
+  zero-take s = all-same (l .cells) _ _ (λ c h. ap (λ x. eqb x 0) (getD-take (l .cells * l .cell) s (c * l .cell + l .key) 0 (zero-within c h)))
+
+  pub cells-back : (part : List ℕ) → length part ≡ l .cells * l .cell → zeroBytes l (l .cells) part ≡ true → cellsFormed l (padded part) ≡ true
+  unfolding cellsFormed
+  cells-back part h zeros =
+      and-i (zeroBytes l (l .cells) (padded part)) (allZero (drop (l .cells * l .cell) (padded part)))
+      (sym (zero-take (padded part)) ∙ ap (zeroBytes l (l .cells)) (padded-back (l .cells * l .cell) part h) ∙ zeros)
+      (ap allZero (drop-padded (l .cells * l .cell) part h) ∙ zeros-zero (480 - length part))
+
+  -- the zero bytes of the table are those of its blocks
+  pub zero-blocks : (z : Sizes) (f : ℕ → List ℕ) → ((m : ℕ) → m < z .k * z .q → length (f m) ≡ l .cells * l .cell)
+      → zeroBytes l (tableCells l z) (joinUpto (z .k * z .q) f) ≡ allUpto (z .k * z .q) (λ m. zeroBytes l (l .cells) (f m))
+  unfolding zeroBytes
+  zero-blocks z f h =
+      let all = joinUpto (z .k * z .q) f in
+      ap (λ n. allUpto n (λ c. eqb (getD all (c * l .cell + l .key) 0) 0)) (table-rows l z)
+      ∙ all-rows (z .k * z .q) (l .cells) (λ c. eqb (getD all (c * l .cell + l .key) 0) 0)
+      ∙ all-same (z .k * z .q) _ _ (λ m p. all-same (l .cells) _ _ (λ c q.
+      ap (λ x. eqb x 0)
+      (ap (λ i. getD all i 0) (byte-place l m c (l .key))
+      ∙ join-at (z .k * z .q) (l .cells * l .cell) f 0 h m (c * l .cell + l .key) p (zero-within c q))))

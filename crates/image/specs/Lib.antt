@@ -1,0 +1,4 @@
+-- What the crate's contracts and theorems cite.
+pub mod Block
+pub mod Seal
+pub mod Read

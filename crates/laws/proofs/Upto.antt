@@ -1,0 +1,113 @@
+-- What is asked, done or listed for each index below n.
+use mathlib.Core.Path.{_≡_, refl, sym, ap, _∙_}
+use mathlib.Core.Bool.{Bool, true, false, _&&_, _||_}
+use mathlib.Core.List.{[], _∷_}
+use mathlib.Core.Logic.{inl, inr}
+use Prim.Native.Nat.{ℕ, zero, suc, _+_, _<_}
+use native.Mathlib.Decide.{ℕ-discrete}
+use native.Mathlib.Numerals.{add-one}
+use native.Mathlib.Omega.{arith}
+use lib.ListN.{length, getD, length-append, List·getD-append}
+use lib.Seq.{getD-at}
+use Rattle.laws.specs.Upto.{anyUpto, allUpto, eachUpto, listUpto}
+use Rattle.laws.proofs.Bools.{split, clash, and-l, and-r, and-i, or-e, or-l, or-r}
+
+pub any-yes : (n : ℕ) (p : ℕ → Bool) (i : ℕ) → i < n → p i ≡ true → anyUpto n p ≡ true
+unfolding anyUpto
+any-yes zero p i l h = absurd (omega arith)
+any-yes (suc n) p i l h = elim (ℕ-discrete i n) [
+  | yes e ↦ or-r (anyUpto n p) (p n) (ap p (sym e) ∙ h)
+  | no e ↦ or-l (anyUpto n p) (p n) (any-yes n p i (omega arith) h)
+]
+
+pub any-no : (n : ℕ) (p : ℕ → Bool) → ((i : ℕ) → i < n → p i ≡ false) → anyUpto n p ≡ false
+unfolding anyUpto
+any-no zero p h = refl
+any-no (suc n) p h = rw (any-no n p (λ i l. h i (omega arith))) (h n (omega arith))
+
+pub any-none : (n : ℕ) (p : ℕ → Bool) → anyUpto n p ≡ false → (i : ℕ) → i < n → p i ≡ false
+any-none n p h i l = elim (split (p i)) [ inl q ↦ clash (any-yes n p i l q) h | inr q ↦ q ]
+
+pub any-some : (n : ℕ) (p : ℕ → Bool) → anyUpto n p ≡ true → (i : ℕ) × (i < n) × (p i ≡ true)
+unfolding anyUpto
+any-some zero p h = clash h refl
+any-some (suc n) p h = elim (or-e (anyUpto n p) (p n) h) [
+  | inl q ↦ let r = any-some n p q in (r .0, omega arith, r .2)
+  | inr q ↦ (n, omega arith, q)
+]
+
+pub any-same : (n : ℕ) (p q : ℕ → Bool) → ((i : ℕ) → i < n → p i ≡ q i) → anyUpto n p ≡ anyUpto n q
+unfolding anyUpto
+any-same zero p q h = refl
+any-same (suc n) p q h = rw (any-same n p q (λ i l. h i (omega arith)), h n (omega arith))
+
+-- one index more, where the code's index is i + 1
+pub any-more : (i : ℕ) (p : ℕ → Bool) → anyUpto (i + 1) p ≡ (anyUpto i p || p i)
+unfolding anyUpto
+any-more i p = rw add-one
+
+pub all-yes : (n : ℕ) (p : ℕ → Bool) → ((i : ℕ) → i < n → p i ≡ true) → allUpto n p ≡ true
+unfolding allUpto
+all-yes zero p h = refl
+all-yes (suc n) p h = and-i (allUpto n p) (p n) (all-yes n p (λ i l. h i (omega arith))) (h n (omega arith))
+
+pub all-at : (n : ℕ) (p : ℕ → Bool) → allUpto n p ≡ true → (i : ℕ) → i < n → p i ≡ true
+unfolding allUpto
+all-at zero p h i l = absurd (omega arith)
+all-at (suc n) p h i l = elim (ℕ-discrete i n) [
+  | yes e ↦ ap p e ∙ and-r (allUpto n p) (p n) h
+  | no e ↦ all-at n p (and-l (allUpto n p) (p n) h) i (omega arith)
+]
+
+pub all-same : (n : ℕ) (p q : ℕ → Bool) → ((i : ℕ) → i < n → p i ≡ q i) → allUpto n p ≡ allUpto n q
+unfolding allUpto
+all-same zero p q h = refl
+all-same (suc n) p q h = rw (all-same n p q (λ i l. h i (omega arith)), h n (omega arith))
+
+pub all-more : (i : ℕ) (p : ℕ → Bool) → allUpto (i + 1) p ≡ (allUpto i p && p i)
+unfolding allUpto
+all-more i p = rw add-one
+
+-- one index that fails is enough
+pub all-no : (n : ℕ) (p : ℕ → Bool) (i : ℕ) → i < n → p i ≡ false → allUpto n p ≡ false
+all-no n p i l h = elim (split (allUpto n p)) [ inl q ↦ clash (all-at n p q i l) h | inr q ↦ q ]
+
+pub each-more : {A : Type 0} (i : ℕ) (f : ℕ → A → A) (a : A) → eachUpto (i + 1) f a ≡ f i (eachUpto i f a)
+unfolding eachUpto
+each-more i f a = rw add-one
+
+-- what each step keeps, all keep
+pub each-keeps : {A : Type 0} (P : A → Type 0) (n : ℕ) (f : ℕ → A → A) (a : A) → P a → ((i : ℕ) (b : A) → i < n → P b → P (f i b)) → P
+    (eachUpto n f a)
+unfolding eachUpto
+each-keeps P zero f a h s = h
+each-keeps P (suc n) f a h s = s n (eachUpto n f a) (omega arith) (each-keeps P n f a h (λ i b l q. s i b (omega arith) q))
+
+pub each-same : {A : Type 0} (n : ℕ) (f g : ℕ → A → A) (a : A) → ((i : ℕ) (b : A) → i < n → f i b ≡ g i b) → eachUpto n f a ≡ eachUpto n g a
+unfolding eachUpto
+each-same zero f g a h = refl
+each-same (suc n) f g a h = rw (each-same n f g a (λ i b l. h i b (omega arith))) (h n (eachUpto n g a) (omega arith))
+
+pub length-list : {A : Type 0} (n : ℕ) (f : ℕ → A) → length (listUpto n f) ≡ n
+unfolding listUpto
+length-list zero f = refl
+length-list (suc n) f = rw (length-append, length-list n f) (omega arith)
+
+pub list-at : {A : Type 0} (n : ℕ) (f : ℕ → A) (d : A) (i : ℕ) → i < n → getD (listUpto n f) i d ≡ f i
+unfolding listUpto
+list-at zero f d i l = absurd (omega arith)
+list-at (suc n) f d i l = elim (ℕ-discrete i n) [
+  | yes e ↦ rw e (getD-at (listUpto n f) (f n) [] d n (length-list n f))
+  | no e ↦
+      List·getD-append (listUpto n f) (f n ∷ []) d i (rw (length-list n f) (omega arith)) ∙ list-at n f d i (omega arith)
+]
+
+-- four values written out
+pub list-four : {A : Type 0} (f : ℕ → A) {a b c d : A} → a ≡ f 0 → b ≡ f 1 → c ≡ f 2 → d ≡ f 3 → (a ∷ b ∷ c ∷ d ∷ []) ≡ listUpto 4 f
+unfolding listUpto
+list-four f p q r s = rw (p, q, r, s)
+
+-- and read off one by one
+pub four-are : {A : Type 0} (f : ℕ → A) {a b c d : A} → (a ∷ b ∷ c ∷ d ∷ []) ≡ listUpto 4 f → (a ≡ f 0) × (b ≡ f 1) × (c ≡ f 2) × (d ≡ f 3)
+unfolding listUpto
+four-are f e = (cc, cc, cc, cc)

@@ -1,0 +1,148 @@
+-- Any calls that take packets by their keys, from a start: what the memory then holds, over any layout.
+use mathlib.Core.Path.{_≡_, refl, sym, ap, subst, _∙_, fun-ext}
+use mathlib.Core.Bool.{true, false}
+use mathlib.Core.List.{List, [], _∷_, _++_}
+use mathlib.Core.Logic.{inl, inr}
+use Prim.Native.Nat.{ℕ, _+_, _*_, _≤_, _<_}
+use native.Mathlib.Omega.{arith}
+use borrow.Author.Tests.{ltb-true}
+use lib.Dec.{ltb}
+use lib.ListN.{getD, replicate, length-replicate}
+use Rattle.laws.proofs.Bools.{split}
+use Rattle.layout.specs.declared.Layout.{Layout}
+use Rattle.layout.specs.declared.Sizes.{Sizes}
+use Rattle.layout.specs.Sizes.{Lays, tableCells, cellBytes, filterBytes}
+use Rattle.fields.specs.Field.{field}
+use Rattle.filter.specs.Filter.{isNew}
+use Rattle.cell.specs.Cell.{flowXorAt, flowCountAt, packetCountAt, flowCountPlace, packetCountPlace}
+use Rattle.theory.specs.Flow.{Key}
+use Rattle.theory.specs.Encode.{Taken, emptyTable, takePackets, addFlow, flowsAfter}
+use Rattle.theory.specs.Encode.{EachTaken, OldIsOld, HasLength}
+use Rattle.theory.proofs.Encode.{cell-path}
+use Rattle.meaning.specs.View.{cellAt, tableOf, placementOf}
+use Rattle.meaning.specs.Meaning.{Memory, Lent, cleared, Call, leaves, isTaken, offerAll, takenOf, TakesKeys}
+use Rattle.meaning.proofs.Packet.{cell-inside}
+use Rattle.meaning.proofs.Kept.{Old, Next, offer-next}
+use Rattle.laws.proofs.BigEndian.{bytes-zeros, number-zeros}
+use Rattle.laws.proofs.Lists.{part-zeros}
+
+-- ---- a start
+pub cleared-lent : (l : Layout) (z : Sizes) → Lent l z (cleared l z)
+unfolding cleared
+cleared-lent l z = record {
+  filter-length = length-replicate (filterBytes z) 0;
+  cells-length = length-replicate (cellBytes l z) 0;
+  filter-bytes = bytes-zeros (filterBytes z);
+  cells-bytes = bytes-zeros (cellBytes l z);
+}
+
+-- a field of zeros
+field-zero : (n bytes i : ℕ) → i + n ≤ bytes → field n (replicate bytes 0) i ≡ 0
+unfolding field
+field-zero n bytes i h = rw (part-zeros bytes i n h) (number-zeros n)
+
+cleared-cell : (l : Layout) (z : Sizes) → Lays l → (c : ℕ) → c < tableCells l z → cellAt l (cleared l z .cells) c ≡ emptyTable (l .key) c
+unfolding cleared cellAt emptyTable flowXorAt flowCountAt packetCountAt
+cleared-cell l z lays c h =
+    let n = cellBytes l z in
+    let p = cell-inside l z c h in
+    let q = lays .key-fits in
+    cell-path _ _ (part-zeros n (c * l .cell) (l .key) (omega arith))
+    (field-zero 2 n (flowCountPlace l c) (omega arith)) (field-zero 4 n (packetCountPlace l c) (omega arith))
+
+pub cleared-table : (l : Layout) (z : Sizes) → Lays l → tableOf l z (cleared l z .cells) ≡ emptyTable (l .key)
+unfolding tableOf
+cleared-table l z lays = fun-ext (λ c. elim (split (ltb c (tableCells l z))) [
+  | inl h ↦ rw h (cleared-cell l z lays c (ltb-true c (tableCells l z) h))
+  | inr h ↦ rw h
+])
+
+-- ---- one call, and all
+module _ (l : Layout) (z : Sizes) (lays : Lays l) (salt : ℕ) {A : Type 0} (call : Call A) (keyOf : A → Key)
+    (takes : TakesKeys l z salt call keyOf) where
+  -- one that is taken
+  next : (a : A) (m : Memory) → Lent l z m → isTaken (call a m) ≡ true → Next l z salt (keyOf a) m (leaves (call a m))
+  next a m lent t =
+      let e = sym (takes .offered a m t) in
+      subst (λ x. Next l z salt (keyOf a) m (leaves x)) e
+      (offer-next l z lays (takes .in-range a m t) salt (keyOf a) (takes .sized a m t) (takes .are-bytes a m t) m lent (ap isTaken e ∙ t))
+
+  -- ---- all, from any memory of the right lengths
+  abbrev run : List A → Memory → Memory
+  run = offerAll call
+
+  abbrev took : List A → Memory → List Taken
+  took = takenOf z salt call keyOf
+
+  abbrev seen : A → Memory → Taken
+  seen a m = record { key = keyOf a; new = isNew z salt (m .filter) (keyOf a) }
+
+  -- what holds of no packet, and of one taken before others where it holds of the others, holds of all
+  run-ind : (P : Memory → Memory → List Taken → Type 0) → ((m : Memory) → Lent l z m → P m m [])
+      → ((a : A) (m end : Memory) (ts : List Taken) → Lent l z m → isTaken (call a m) ≡ true
+      → P (leaves (call a m)) end ts → P m end (seen a m ∷ ts))
+      → (offers : List A) (m : Memory) → Lent l z m → P m (run offers m) (took offers m)
+  unfolding offerAll takenOf
+  run-ind P none one [] m lent = none m lent
+  run-ind P none one (a ∷ later) m lent =
+      let after = leaves (call a m) in
+      elim (split (isTaken (call a m))) [
+        | inl t ↦ rw t (one a m (run later after) (took later after) lent t (run-ind P none one later after (next a m lent t .lent)))
+        | inr t ↦ rw (t, takes .keeps a m t) (run-ind P none one later m lent)
+      ]
+
+  pub run-table : (offers : List A) (m : Memory) → Lent l z m
+      → tableOf l z (run offers m .cells) ≡ takePackets (placementOf l z salt) (took offers m) (tableOf l z (m .cells))
+  run-table = run-ind (λ m end ts. tableOf l z (end .cells) ≡ takePackets (placementOf l z salt) ts (tableOf l z (m .cells)))
+      (λ m lent. unfold takePackets in refl)
+      (λ a m end ts lent t h. unfold takePackets in h ∙ ap (takePackets (placementOf l z salt) ts) (next a m lent t .table))
+
+  pub run-lent : (offers : List A) (m : Memory) → Lent l z m → Lent l z (run offers m)
+  run-lent = run-ind (λ m end ts. Lent l z end) (λ m lent. lent) (λ a m end ts lent t h. h)
+
+  pub run-zero : (offers : List A) (m : Memory) → Lent l z m → (d : ℕ)
+      → getD (run offers m .cells) (d * l .cell + l .key) 0 ≡ getD (m .cells) (d * l .cell + l .key) 0
+  run-zero = run-ind (λ m end ts. (d : ℕ) → getD (end .cells) (d * l .cell + l .key) 0 ≡ getD (m .cells) (d * l .cell + l .key) 0)
+      (λ m lent d. refl) (λ a m end ts lent t h d. h d ∙ next a m lent t .zero d)
+
+  pub run-old : (offers : List A) (m : Memory) → Lent l z m → (F : List Key) → Old z salt F (m .filter)
+      → Old z salt (flowsAfter F (took offers m)) (run offers m .filter)
+  run-old = run-ind (λ m end ts. (F : List Key) → Old z salt F (m .filter) → Old z salt (flowsAfter F ts) (end .filter))
+      (λ m lent F old. unfold flowsAfter in old)
+      (λ a m end ts lent t h F old. unfold flowsAfter in h (addFlow F (keyOf a)) (next a m lent t .old F old))
+
+  pub run-renewed : (offers : List A) (m : Memory) → Lent l z m → (F : List Key) → Old z salt F (m .filter) → EachTaken OldIsOld F (took offers m)
+  run-renewed = run-ind (λ m end ts. (F : List Key) → Old z salt F (m .filter) → EachTaken OldIsOld F ts)
+      (λ m lent F old. unfold EachTaken in tt)
+      (λ a m end ts lent t h F old. unfold EachTaken in (old (keyOf a), h (addFlow F (keyOf a)) (next a m lent t .old F old)))
+
+  pub run-sized : (offers : List A) (m : Memory) → Lent l z m → (F : List Key) → EachTaken (HasLength (l .key)) F (took offers m)
+  run-sized = run-ind (λ m end ts. (F : List Key) → EachTaken (HasLength (l .key)) F ts)
+      (λ m lent F. unfold EachTaken in tt)
+      (λ a m end ts lent t h F. unfold EachTaken in (takes .sized a m t, h (addFlow F (keyOf a))))
+
+-- ---- what is offered before, and later
+module _ (z : Sizes) (salt : ℕ) {A : Type 0} (call : Call A) (keyOf : A → Key) where
+  pub append-memory : (before later : List A) (m : Memory) → offerAll call (before ++ later) m ≡ offerAll call later (offerAll call before m)
+  unfolding offerAll
+  append-memory [] later m = refl
+  append-memory (a ∷ before) later m = append-memory before later (leaves (call a m))
+
+  pub append-taken : (before later : List A) (m : Memory)
+      → takenOf z salt call keyOf (before ++ later) m ≡ takenOf z salt call keyOf before m ++ takenOf z salt call keyOf later (offerAll call before m)
+  unfolding offerAll takenOf
+  append-taken [] later m = refl
+  append-taken (a ∷ before) later m =
+      rw (append-taken before later (leaves (call a m)))
+      (elim (split (isTaken (call a m))) [ inl t ↦ rw t | inr t ↦ rw t ])
+
+  -- what is refused, and keeps the memory, may as well not be offered
+  module _ (before : List A) (a : A) (later : List A) (m : Memory) (refused : isTaken (call a (offerAll call before m)) ≡ false)
+      (keeps : leaves (call a (offerAll call before m)) ≡ offerAll call before m) where
+    pub refused-memory : offerAll call (before ++ (a ∷ later)) m ≡ offerAll call (before ++ later) m
+    unfolding offerAll
+    refused-memory = rw (append-memory before (a ∷ later) m, append-memory before later m, keeps)
+
+    pub refused-taken : takenOf z salt call keyOf (before ++ (a ∷ later)) m ≡ takenOf z salt call keyOf (before ++ later) m
+    unfolding takenOf
+    refused-taken = rw (append-taken before (a ∷ later) m, append-taken before later m, refused, keeps)

@@ -1,0 +1,3 @@
+-- Definitions that the theorems cite.
+pub mod View
+pub mod Meaning

@@ -1,0 +1,20 @@
+-- 01 'Both sides of each edge': "A 20-byte packet of protocol 1 is a key, 19 bytes is 6. TCP with 20 header bytes: 24 bytes good, 23 is 6."
+use mathlib.Core.Path.{_≡_, refl}
+use mathlib.Core.List.{List, _∷_, _++_}
+use Prim.Native.Nat.{ℕ, _-_}
+use lib.ListN.{replicate}
+use Rattle.laws.specs.BigEndian.{numberOf}
+use Rattle.fields.specs.Field.{field}
+use Rattle.packet.specs.Packet.{version, headerWords, headerBytes, protocol, fragmentOffset, hasPorts, refused, keyOf, number}
+
+-- n bytes of version 4, with a header of 5 words, of the given protocol, else zero
+abbrev packet : ℕ → ℕ → List ℕ
+packet n proto = 69 ∷ (replicate 8 0 ++ (proto ∷ replicate (n - 10) 0))
+
+pub edges :
+    (number (keyOf (packet 20 1)) ≡ 0)
+    × (number (keyOf (packet 19 1)) ≡ 6)
+    × (number (keyOf (packet 24 6)) ≡ 0)
+    × (number (keyOf (packet 23 6)) ≡ 6)
+unfolding version headerWords headerBytes protocol fragmentOffset hasPorts refused keyOf numberOf field
+edges = (refl, refl, refl, refl)

@@ -1,0 +1,80 @@
+-- A session of a flowset that reports whole lists every flow with its packets; so no other collection of flows encodes to the same cells.
+use mathlib.Core.Path.{_≡_, refl, sym, ap, _∙_, subst}
+use mathlib.Core.Logic.{inl, inr}
+use mathlib.Core.Bool.{true, false}
+use mathlib.Core.List.{List, [], _∷_}
+use mathlib.Core.Option.{some}
+use Prim.Native.Nat.{ℕ, _<_}
+use native.Mathlib.Omega.{arith}
+use lib.ListN.{length}
+use lib.Dec.{ltb}
+use Rattle.laws.proofs.Bools.{split, iff}
+use Rattle.laws.proofs.Upto.{any-some}
+use Rattle.theory.specs.Flow.{Key, among}
+use Rattle.theory.specs.Session.{Session, unknownsOf, listed, unknown, counted, countOf, openCells}
+use Rattle.theory.specs.HandOver.{Switch, Call, calls}
+use Rattle.theory.specs.Invariant.{Counted, received, Holds}
+use Rattle.theory.specs.Report.{whole, report}
+use Rattle.theory.specs.Demands.{HandedCounted}
+use Rattle.theory.proofs.Records.{counts-said}
+use Rattle.theory.proofs.Single.{zero-listed}
+use Rattle.theory.proofs.Demands.{after, after-holds}
+use borrow.Author.Tests.{ltb-false}
+use Rattle.laws.proofs.Lowest.{number-some}
+
+module _ (n : ℕ) (s : Session) (z : report n s .state ≡ whole) where
+  -- whole: no cell is open, and no count unknown
+  whole-says : (openCells n (s .cells) ≡ 0) × (length (unknownsOf (s .list)) ≡ 0)
+  unfolding report
+  whole-says = elim (split (ltb 0 (openCells n (s .cells)))) [
+    | inl a ↦ absurd (let h = rw a at z in let q : _≡_ {A = ℕ} 0 1 = cc in omega arith)
+    | inr a ↦ elim (split (ltb 0 (length (unknownsOf (s .list))))) [
+      | inl b ↦ absurd (let h = rw (a, b) at z in let q : _≡_ {A = ℕ} 0 1 = cc in omega arith)
+      | inr b ↦ (omega (arith, ltb-false 0 (openCells n (s .cells)) a), omega (arith, ltb-false 0 (length (unknownsOf (s .list))) b))
+    ]
+  ]
+
+  whole-zero : (c : ℕ) → c < n → s .cells c .flowCount ≡ 0
+  unfolding openCells
+  whole-zero c l = elim (split (ltb 0 (s .cells c .flowCount))) [
+    | inl a ↦ absurd (omega (arith, whole-says .0, number-some n (λ j. ltb 0 (s .cells j .flowCount)) c l a))
+    | inr a ↦ omega (arith, ltb-false 0 (s .cells c .flowCount) a)
+  ]
+
+  whole-known : (k : Key) → unknown s k ≡ false
+  whole-known k = go (unknownsOf (s .list)) (whole-says .1)
+    where
+      go : (l : List Key) → length l ≡ 0 → among k l ≡ false
+      go [] e = unfold among in refl
+      go (x ∷ l) e = absurd (omega arith)
+
+module _ (w : Switch) (e : Counted w) (s : Session) (i : Holds w e s) (z : report (w .size) s .state ≡ whole) where
+  whole-listed : (k : Key) → among k (e .flows) ≡ true → listed s k ≡ true
+  whole-listed k m =
+      let c = any-some (w .size) (w .has k) (e .placed .somewhere k) in
+      zero-listed w e s i (c .0) (whole-zero (w .size) s z (c .0) (c .1)) k m (c .2)
+
+  -- Theorem: whole lists exactly the flows
+  pub whole-flows : (k : Key) → listed s k ≡ among k (e .flows)
+  whole-flows k = iff (listed s k) (among k (e .flows)) (i .inside k) (whole-listed k)
+
+  -- Theorem: each with its packets
+  pub whole-counts : (k : Key) → among k (e .flows) ≡ true → countOf (s .list) k ≡ some (e .packets k)
+  unfolding counted
+  whole-counts k m = rw (counts-said (e .packets) s (i .apart) (i .right) k, whole-listed k m, whole-known (w .size) s z k)
+
+-- Theorem: two collections of flows that encode to the same cells are the same, if a session of these cells reports whole
+module _ (w : Switch) (e f : Counted w) (same : received w e ≡ received w f) (l : List Call)
+    (oursE : HandedCounted (e .flows) (after w e l)) (oursF : HandedCounted (f .flows) (after w f l))
+    (z : report (w .size) (after w e l) .state ≡ whole) where
+  holds-f : Holds w f (after w e l)
+  holds-f = subst (Holds w f) (ap (calls w l) (sym same)) (after-holds w f l oursF)
+
+  pub same-flows : (k : Key) → among k (e .flows) ≡ among k (f .flows)
+  same-flows k = sym (whole-flows w e (after w e l) (after-holds w e l oursE) z k) ∙ whole-flows w f (after w e l) holds-f z k
+
+  pub same-packets : (k : Key) → among k (e .flows) ≡ true → e .packets k ≡ f .packets k
+  same-packets k m =
+      let p = whole-counts w e (after w e l) (after-holds w e l oursE) z k m in
+      let q = whole-counts w f (after w e l) holds-f z k (sym (same-flows k) ∙ m) in
+      cc

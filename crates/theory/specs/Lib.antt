@@ -1,0 +1,15 @@
+-- Definitions that the theorems and other crates cite.
+pub mod Flow
+pub mod Encode
+pub mod Session
+pub mod Settle
+pub mod HandOver
+pub mod Report
+pub mod Fits
+pub mod Invariant
+pub mod Runs
+pub mod Demands
+pub mod Exchange
+pub mod Notes
+pub mod Proper
+pub mod Cases

@@ -1,0 +1,65 @@
+//! Finding a short request that still shows a difference.
+
+use crate::layout::BLOCK_BYTES;
+use crate::request::{Request, Run, ENCODER, READ, READ_HEAD};
+
+/// Drops pieces as long as the lines still differ: packets and then their bytes, an image's blocks, else single bytes.
+pub fn shrink(request: &Request, mut differs: impl FnMut(&Request) -> bool) -> Request {
+    if request.op == ENCODER {
+        if let Some(run) = Run::parse(&request.payload) {
+            return shrink_run(run, &mut differs);
+        }
+    }
+    let (head, pieces) = pieces_of(request);
+    let rebuilt = |pieces: &[&[u8]]| Request::new(request.op, [head, &pieces.concat()].concat());
+    let kept = drop_in_rounds(pieces, |pieces| differs(&rebuilt(pieces)));
+    rebuilt(&kept)
+}
+
+fn shrink_run(mut run: Run, differs: &mut impl FnMut(&Request) -> bool) -> Request {
+    let with = |packets: &[Vec<u8>]| Run { packets: packets.to_vec(), ..run.clone() }.to_request();
+    let mut packets = drop_in_rounds(run.packets.clone(), |packets| differs(&with(packets)));
+    for number in 0..packets.len() {
+        packets[number] = drop_in_rounds(packets[number].clone(), |bytes| {
+            let mut candidate = packets.clone();
+            candidate[number] = bytes.to_vec();
+            differs(&with(&candidate))
+        });
+    }
+    run.packets = packets;
+    run.to_request()
+}
+
+/// What must stay, and what may go. A torn block only ever makes a wrong length, so whole blocks go.
+fn pieces_of(request: &Request) -> (&[u8], Vec<&[u8]>) {
+    let payload = request.payload.as_slice();
+    if request.op != READ || payload.len() < READ_HEAD {
+        return (&[], payload.chunks(1).collect());
+    }
+    let (head, image) = payload.split_at(READ_HEAD);
+    let blocks = image.chunks_exact(BLOCK_BYTES);
+    let rest = blocks.remainder();
+    (head, blocks.chain(rest.chunks(1)).collect())
+}
+
+/// Tries to drop runs of pieces, from all of them down to single ones, until no single piece can go.
+fn drop_in_rounds<T: Clone>(mut pieces: Vec<T>, mut differs: impl FnMut(&[T]) -> bool) -> Vec<T> {
+    let mut width = pieces.len();
+    while width > 0 {
+        let before = pieces.len();
+        let mut at = 0;
+        while at < pieces.len() {
+            let end = (at + width).min(pieces.len());
+            let candidate = [&pieces[..at], &pieces[end..]].concat();
+            if differs(&candidate) {
+                pieces = candidate;
+            } else {
+                at = end;
+            }
+        }
+        if width > 1 || pieces.len() == before {
+            width /= 2;
+        }
+    }
+    pieces
+}
