@@ -5,7 +5,8 @@ use Prim.Native.Nat.{ℕ, _-_}
 use lib.ListN.{replicate}
 use Rattle.laws.specs.BigEndian.{numberOf}
 use Rattle.fields.specs.Field.{field}
-use Rattle.packet.specs.Packet.{version, headerWords, headerBytes, protocol, fragmentOffset, hasPorts, refused, keyOf, number}
+use Rattle.packet.specs.Packet.{version, headerWords, headerBytes, protocol, fragmentOffset, hasPorts, refused, keyOf, number, port, keyIn}
+use Rattle.packet.specs.declared.Keyed.the-variants.{Flow}
 
 -- n bytes of version 4, with a header of 5 words, of the given protocol, else zero
 abbrev packet : ℕ → ℕ → List ℕ
@@ -18,3 +19,8 @@ pub edges :
     × (number (keyOf (packet 23 6)) ≡ 6)
 unfolding version headerWords headerBytes protocol fragmentOffset hasPorts refused keyOf numberOf field
 edges = (refl, refl, refl, refl)
+
+-- 01 'Keys and hashing': "All zeros is an ordinary key"
+pub all-zeros : keyOf (packet 20 0) ≡ Flow (record { source = 0; destination = 0; sport = 0; dport = 0; protocol = 0 })
+unfolding version headerWords headerBytes protocol fragmentOffset hasPorts refused port keyIn keyOf numberOf field
+all-zeros = refl

@@ -3,3 +3,4 @@ pub mod Packet
 pub mod KeyBytes
 pub mod Edges
 pub mod Outcomes
+pub mod Unread
