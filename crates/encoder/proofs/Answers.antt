@@ -1,6 +1,6 @@
 -- Each way out of the encoder's functions, over plain values; and the code's list of places is the flow's.
 use mathlib.Core.Path.{_≡_, sym, ap, _∙_}
-use mathlib.Core.Bool.{Bool, true, false}
+use mathlib.Core.Bool.{Bool, true, false, not}
 use mathlib.Core.List.{List}
 use Prim.Native.Nat.{ℕ, _+_, _<_}
 use native.Mathlib.Nat.{mul-le-mul, add-mul}
@@ -9,7 +9,7 @@ use borrow.Author.Tests.{eq-eqb, ne-eqb, eqb-true}
 use lib.Dec.{eqb}
 use lib.ListN.{length, getD}
 use Rattle.laws.specs.Upto.{listUpto}
-use Rattle.laws.proofs.Bools.{and-l, and-r}
+use Rattle.laws.proofs.Bools.{and-l, and-r, held, failed}
 use Rattle.laws.proofs.Upto.{any-same, each-same, list-at}
 use Rattle.layout.specs.declared.Layout.{Layout}
 use Rattle.layout.specs.declared.Sizes.{Sizes}
@@ -61,6 +61,15 @@ rooms-filter l z filter cells h = rw (ne-eqb filter (filterBytes z) h)
 pub rooms-cells : (l : Layout) (z : Sizes) (filter cells : ℕ) → filter ≡ filterBytes z → eqb cells (cellBytes l z) ≡ roomsFit l z filter cells
 unfolding roomsFit
 rooms-cells l z filter cells h = rw (eq-eqb filter (filterBytes z) h)
+
+-- the code's test of the lengths, where its layout is the IPv4 one
+pub room-held : (z : Sizes) (filter cells : ℕ) {l : Layout} {t : Bool} → l ≡ ipv4Layout → t ≡ roomsFit l z filter cells → not t ≡ false
+    → roomsFit ipv4Layout z filter cells ≡ true
+room-held z filter cells e r h = held (r ∙ ap (λ l. roomsFit l z filter cells) e) h
+
+pub room-failed : (z : Sizes) (filter cells : ℕ) {l : Layout} {t : Bool} → l ≡ ipv4Layout → t ≡ roomsFit l z filter cells → not t ≡ true
+    → roomsFit ipv4Layout z filter cells ≡ false
+room-failed z filter cells e r h = failed (r ∙ ap (λ l. roomsFit l z filter cells) e) h
 
 -- ---- the code's places
 module _ (l : Layout) (z : Sizes) (lays : Lays l) (r : Ranged z) (salt : ℕ) (key : List ℕ) where

@@ -33,3 +33,4 @@ pub mod Room
 pub mod Exchange
 -- the ten cases
 pub mod Cases
+pub mod Unclean

@@ -13,3 +13,4 @@ pub mod Exchange
 pub mod Notes
 pub mod Proper
 pub mod Cases
+pub mod Unclean

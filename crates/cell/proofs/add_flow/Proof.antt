@@ -1,3 +1,4 @@
+-- `cell::add_flow` meets its contract.
 use mathlib.Core.Path.{ap, _∙_}
 use Rattle.cell.specs.Cell.{addFlow}
 use Rattle.cell.proofs.Steps.{flow-counted}

@@ -1,3 +1,4 @@
+-- `cell::add_packet` meets its contract.
 use mathlib.Core.Path.{_∙_}
 use Rattle.cell.proofs.Steps.{packet-counted}
 use borrow.Author.Needs.{needs}

@@ -1,3 +1,4 @@
+-- `cell::flow_count` meets its contract.
 use Rattle.cell.specs.Cell.{flowCountAt}
 use borrow.Author.Needs.{needs}
 use Rattle.cell.proofs.flow_count.Statement.{statement}

@@ -1,3 +1,4 @@
+-- `cell::mix_key` meets its contract.
 use Prim.Native.Nat.{_+_, _*_, _-_}
 use native.Mathlib.Omega.{arith}
 use Rattle.cell.proofs.Steps.{key-mixed}

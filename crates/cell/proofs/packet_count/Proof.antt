@@ -1,3 +1,4 @@
+-- `cell::packet_count` meets its contract.
 use Rattle.cell.specs.Cell.{packetCountAt}
 use borrow.Author.Needs.{needs}
 use Rattle.cell.proofs.packet_count.Statement.{statement}

@@ -1,3 +1,4 @@
+-- `cell::take_in` meets its contract.
 use mathlib.Core.Path.{ap, _∙_}
 use Rattle.cell.specs.Cell.{addPacket, takeAt}
 use borrow.Author.Needs.{needs}

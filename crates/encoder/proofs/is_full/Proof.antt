@@ -1,3 +1,4 @@
+-- `encoder::is_full` meets its contract.
 use mathlib.Core.Path.{sym, ap, _∙_}
 use Rattle.encoder.proofs.Answers.{full-packets, full-flows, full-none}
 use lib.Dec.{eqb}

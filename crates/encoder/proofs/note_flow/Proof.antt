@@ -1,3 +1,4 @@
+-- `encoder::note_flow` meets its contract.
 use borrow.Author.Tests.{not-true, not-false}
 use Rattle.encoder.specs.Loops.{noted}
 use borrow.Author.Needs.{needs}

@@ -1,10 +1,12 @@
+use Rattle.laws.proofs.Bools.{held, failed}
+use Rattle.encoder.proofs.Answers.{room-held, room-failed}
+-- `encoder::packet` meets its contract.
 use mathlib.Core.Path.{sym, ap, _∙_}
-use borrow.Author.Tests.{not-true, not-false}
 use Rattle.layout.specs.Sizes.{ipv4Layout}
 use Rattle.layout.proofs.Ranges.{ranged, lays-ipv4}
 use lib.ListN.{length}
 use Rattle.packet.proofs.KeyBytes.{length-key}
-use Rattle.encoder.specs.Encoder.{roomsFit, offerKey}
+use Rattle.encoder.specs.Encoder.{offerKey}
 use Rattle.encoder.proofs.Answers.{rooms, packet-sizes, packet-room, packet-refused, packet-offered}
 use borrow.Author.Needs.{needs}
 use Rattle.encoder.proofs.packet.Statement.{statement}
@@ -16,28 +18,25 @@ in-range-requires c κs = search needs
 returns : tie.Need-returns
 returns c =
     let a = c .before .before .before .before .before .args in
-    packet-sizes (a .z) (a .salt) (a .packet .now) (a .filter .now) (a .cells .now)
-    (sym (c .before .in-range .ensures) ∙ not-true (c .before .in-range .result) (c .if1 .taken))
+    packet-sizes (a .z) (a .salt) (a .packet .now) (a .filter .now) (a .cells .now) (failed (c .before .in-range .ensures) (c .if1 .taken))
 
 ipv4-requires : tie.Need-ipv4-requires
 ipv4-requires c κs = search needs
 
 rooms-fit-requires : tie.Need-rooms-fit-requires
-rooms-fit-requires c κs =
-    let e = c .ipv4 .ensures in (
-      rw e lays-ipv4,
-      ranged (c .before .before .before .before .before .before .args .z)
-          (sym (c .before .before .in-range .ensures) ∙ not-false (c .before .before .in-range .result) (c .before .if1 .left)),
-    )
+rooms-fit-requires c κs = (
+  rw (c .ipv4 .ensures) lays-ipv4,
+  ranged (c .before .before .before .before .before .before .args .z)
+      (held (c .before .before .in-range .ensures) (c .before .if1 .left)),
+)
 
 returns-2 : tie.Need-returns-2
 returns-2 c =
     let a = c .before .before .before .before .before .before .before .before .args in
     packet-room (a .z) (a .salt) (a .packet .now) (a .filter .now) (a .cells .now)
-    (sym (c .before .before .before .before .in-range .ensures) ∙ not-false (c .before .before .before .before .in-range .result)
-    (c .before .before .before .if1 .left))
-    (ap (λ l. roomsFit l (a .z) (length (a .filter .now)) (length (a .cells .now))) (sym (c .before .before .ipv4 .ensures)) ∙ sym
-    (c .before .rooms-fit .ensures) ∙ not-true (c .before .rooms-fit .result) (c .if2 .taken))
+    (held (c .before .before .before .before .in-range .ensures) (c .before .before .before .if1 .left))
+    (room-failed (a .z) (length (a .filter .now)) (length (a .cells .now)) (c .before .before .ipv4 .ensures) (c .before .rooms-fit .ensures)
+    (c .if2 .taken))
 
 key-of-requires : tie.Need-key-of-requires
 key-of-requires c κs = search needs
@@ -50,13 +49,13 @@ enum-told c = search needs
 
 returns-3 : tie.Need-returns-3
 returns-3 c =
-    let a = c .before .before .before .before .before .before .before .before .before .before .before .args in
+    let d = c .before .before .before in
+    let a = d .before .before .before .before .before .before .before .before .args in
     packet-refused (a .z) (a .salt) (a .packet .now) (a .filter .now) (a .cells .now)
-    (sym (c .before .before .before .before .before .before .before .in-range .ensures) ∙ not-false
-    (c .before .before .before .before .before .before .before .in-range .result) (c .before .before .before .before .before .before .if1 .left))
-    (ap (λ l. roomsFit l (a .z) (length (a .filter .now)) (length (a .cells .now))) (sym (c .before .before .before .before .before .ipv4 .ensures))
-    ∙ sym (c .before .before .before .before .rooms-fit .ensures) ∙ not-false (c .before .before .before .before .rooms-fit .result)
-    (c .before .before .before .if2 .left))
+    (held (d .before .before .before .before .in-range .ensures)
+    (d .before .before .before .if1 .left))
+    (room-held (a .z) (length (a .filter .now)) (length (a .cells .now)) (d .before .before .ipv4 .ensures)
+    (d .before .rooms-fit .ensures) (d .if2 .left))
     (sym (c .before .before .key-of .ensures) ∙ c .enum-told .given .1)
 
 key-bytes-requires : tie.Need-key-bytes-requires
@@ -70,22 +69,21 @@ slice-aggregate-take-key c = search needs
 
 take-key-requires : tie.Need-take-key-requires
 take-key-requires c κs =
-    let a = c .before .before .before .before .before .before .before .before .before .before .before .before .before .before .before .before .before .args in
-    let f = rooms ipv4Layout (a .z) (length (a .filter .now)) (length (a .cells .now))
-    (ap (λ l. roomsFit l (a .z) (length (a .filter .now)) (length (a .cells .now)))
-    (sym (c .before .before .before .before .before .before .before .before .before .before .before .ipv4 .ensures)) ∙ sym
-    (c .before .before .before .before .before .before .before .before .before .before .rooms-fit .ensures) ∙ not-false
-    (c .before .before .before .before .before .before .before .before .before .before .rooms-fit .result)
-    (c .before .before .before .before .before .before .before .before .before .if2 .left)) in
+    let d = c .before .before .before .before .before .before .before .before .before in
+    let a = d .before .before .before .before .before .before .before .before .args in
+    let f = length (a .filter .now) in
+    let n = length (a .cells .now) in
+    let fit = rooms ipv4Layout (a .z) f n
+    (room-held (a .z) f n (d .before .before .ipv4 .ensures)
+    (d .before .rooms-fit .ensures)
+    (d .if2 .left)) in
     let e = c .before .before .before .ipv42 .ensures in (
       rw e lays-ipv4,
-      ranged (a .z)
-          (sym (c .before .before .before .before .before .before .before .before .before .before .before .before .before .in-range .ensures)
-          ∙ not-false (c .before .before .before .before .before .before .before .before .before .before .before .before .before .in-range .result)
-          (c .before .before .before .before .before .before .before .before .before .before .before .before .if1 .left)),
-      rw e f,
-      rw e
-          (ap length (c .before .before .before .before .key-bytes .ensures) ∙ length-key _),
+      ranged (a .z) (held
+          (d .before .before .before .before .in-range .ensures)
+          (d .before .before .before .if1 .left)),
+      rw e fit,
+      rw e (ap length (c .before .before .before .before .key-bytes .ensures) ∙ length-key _),
     )
 
 same-length : tie.Need-same-length
@@ -96,12 +94,14 @@ same-length-2 c = search needs
 
 returns-4 : tie.Need-returns-4
 returns-4 c =
-    let a = c .before .before .before .before .before .before .before .before .before .before .before .before .before .before .before .before .before .before .before .before .before .before .args in
+    let d = c .before .before .before .before .before .before .before .before .before .before .before .before .before .before in
+    let a = d .before .before .before .before .before .before .before .before .args in
     packet-offered (a .z) (a .salt) (a .packet .now) (a .filter .now) (a .cells .now)
-    (sym (c .before .before .before .before .before .before .before .before .before .before .before .before .before .before .before .before .before .before .in-range .ensures) ∙ not-false (c .before .before .before .before .before .before .before .before .before .before .before .before .before .before .before .before .before .before .in-range .result) (c .before .before .before .before .before .before .before .before .before .before .before .before .before .before .before .before .before .if1 .left))
-    (ap (λ l. roomsFit l (a .z) (length (a .filter .now)) (length (a .cells .now)))
-    (sym (c .before .before .before .before .before .before .before .before .before .before .before .before .before .before .before .before .ipv4 .ensures)) ∙ sym (c .before .before .before .before .before .before .before .before .before .before .before .before .before .before .before .rooms-fit .ensures) ∙ not-false (c .before .before .before .before .before .before .before .before .before .before .before .before .before .before .before .rooms-fit .result) (c .before .before .before .before .before .before .before .before .before .before .before .before .before .before .if2 .left))
-    _ (sym (c .before .before .before .before .before .before .before .before .before .before .before .before .before .key-of .ensures)
+    (held (d .before .before .before .before .in-range .ensures) (d .before .before .before .if1 .left))
+    (room-held (a .z) (length (a .filter .now)) (length (a .cells .now))
+    (d .before .before .ipv4 .ensures) (d .before .rooms-fit .ensures) (d .if2 .left))
+    _
+    (sym (c .before .before .before .before .before .before .before .before .before .before .before .before .before .key-of .ensures)
     ∙ c .before .before .before .before .before .before .before .before .before .before .before .key .given .1)
     (c .before .before .before .before .before .before .before .before .before .key-bytes .ensures)
     (c .before .before .before .before .take-key .ensures ∙ ap

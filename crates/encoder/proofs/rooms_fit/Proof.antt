@@ -1,3 +1,4 @@
+-- `encoder::rooms_fit` meets its contract.
 use mathlib.Core.Path.{sym, ap, _∙_}
 use lib.Dec.{eqb}
 use Rattle.encoder.proofs.Answers.{rooms-filter, rooms-cells}

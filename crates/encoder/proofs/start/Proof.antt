@@ -1,8 +1,8 @@
-use mathlib.Core.Path.{sym, ap, _∙_}
-use borrow.Author.Tests.{not-true, not-false}
+use Rattle.laws.proofs.Bools.{held, failed}
+use Rattle.encoder.proofs.Answers.{room-held, room-failed}
+-- `encoder::start` meets its contract.
 use Rattle.layout.proofs.Ranges.{ranged, lays-ipv4}
 use lib.ListN.{length}
-use Rattle.encoder.specs.Encoder.{roomsFit}
 use Rattle.encoder.proofs.Answers.{start-sizes, start-room, start-done}
 use borrow.Author.Needs.{needs}
 use Rattle.encoder.proofs.start.Statement.{statement}
@@ -14,27 +14,25 @@ in-range-requires c κs = search needs
 returns : tie.Need-returns
 returns c =
     let a = c .before .before .before .before .args in
-    start-sizes (a .z) (a .filter .now) (a .cells .now) (sym (c .before .in-range .ensures) ∙ not-true (c .before .in-range .result) (c .if1 .taken))
+    start-sizes (a .z) (a .filter .now) (a .cells .now) (failed (c .before .in-range .ensures) (c .if1 .taken))
 
 ipv4-requires : tie.Need-ipv4-requires
 ipv4-requires c κs = search needs
 
 rooms-fit-requires : tie.Need-rooms-fit-requires
-rooms-fit-requires c κs =
-    let e = c .ipv4 .ensures in (
-      rw e lays-ipv4,
-      ranged (c .before .before .before .before .before .args .z)
-          (sym (c .before .before .in-range .ensures) ∙ not-false (c .before .before .in-range .result) (c .before .if1 .left)),
-    )
+rooms-fit-requires c κs = (
+  rw (c .ipv4 .ensures) lays-ipv4,
+  ranged (c .before .before .before .before .before .args .z)
+      (held (c .before .before .in-range .ensures) (c .before .if1 .left)),
+)
 
 returns-2 : tie.Need-returns-2
 returns-2 c =
     let a = c .before .before .before .before .before .before .before .args in
     start-room (a .z) (a .filter .now) (a .cells .now)
-    (sym (c .before .before .before .before .in-range .ensures) ∙ not-false (c .before .before .before .before .in-range .result)
-    (c .before .before .before .if1 .left))
-    (ap (λ l. roomsFit l (a .z) (length (a .filter .now)) (length (a .cells .now))) (sym (c .before .before .ipv4 .ensures)) ∙ sym
-    (c .before .rooms-fit .ensures) ∙ not-true (c .before .rooms-fit .result) (c .if2 .taken))
+    (held (c .before .before .before .before .in-range .ensures) (c .before .before .before .if1 .left))
+    (room-failed (a .z) (length (a .filter .now)) (length (a .cells .now)) (c .before .before .ipv4 .ensures) (c .before .rooms-fit .ensures)
+    (c .if2 .taken))
 
 clear-requires : tie.Need-clear-requires
 clear-requires c κs = search needs
@@ -52,15 +50,14 @@ returns-3 : tie.Need-returns-3
 returns-3 c =
     let a = c .before .before .before .before .before .before .before .before .before .before .before .before .before .before .before .args in
     start-done (a .z) (a .filter .now) (a .cells .now)
-    (sym (c .before .before .before .before .before .before .before .before .before .before .before .before .in-range .ensures) ∙ not-false
-    (c .before .before .before .before .before .before .before .before .before .before .before .before .in-range .result)
+    (held (c .before .before .before .before .before .before .before .before .before .before .before .before .in-range .ensures)
     (c .before .before .before .before .before .before .before .before .before .before .before .if1 .left))
-    (ap (λ l. roomsFit l (a .z) (length (a .filter .now)) (length (a .cells .now)))
-    (sym (c .before .before .before .before .before .before .before .before .before .before .ipv4 .ensures)) ∙ sym
-    (c .before .before .before .before .before .before .before .before .before .rooms-fit .ensures) ∙ not-false
-    (c .before .before .before .before .before .before .before .before .before .rooms-fit .result)
+    (room-held (a .z) (length (a .filter .now)) (length (a .cells .now))
+    (c .before .before .before .before .before .before .before .before .before .before .ipv4 .ensures)
+    (c .before .before .before .before .before .before .before .before .before .rooms-fit .ensures)
     (c .before .before .before .before .before .before .before .before .if2 .left))
-    (c .before .before .before .before .before .before .clear .ensures) (c .before .before .clear2 .ensures)
+    (c .before .before .before .before .before .before .clear .ensures)
+    (c .before .before .clear2 .ensures)
 
 pub start-spec : {M : Type 1} → statement M
 start-spec =

@@ -1,3 +1,4 @@
+-- `encoder::take_key` meets its contract.
 use mathlib.Core.Path.{sym, _∙_}
 use Rattle.filter.proofs.Held.{bits-inside}
 use Rattle.encoder.proofs.Answers.{cells-inside, offer-full, offer-taken}

@@ -1,3 +1,4 @@
+-- `fields::long_at` meets its contract.
 use mathlib.Core.Path.{_∙_, ap₂}
 use Prim.Native.Nat.{ℕ, _+_, _*_}
 use Rattle.fields.proofs.Fields.{long-is}

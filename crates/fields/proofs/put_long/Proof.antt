@@ -1,3 +1,4 @@
+-- `fields::put_long` meets its contract.
 use Rattle.fields.proofs.Fields.{long-put}
 use native.Mathlib.Omega.{arith}
 use lib.ListN.{length-set}

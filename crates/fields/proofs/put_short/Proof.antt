@@ -1,3 +1,4 @@
+-- `fields::put_short` meets its contract.
 use Rattle.fields.proofs.Fields.{short-put}
 use native.Mathlib.Omega.{arith}
 use lib.ListN.{length-set}

@@ -1,3 +1,4 @@
+-- `fields::short_at` meets its contract.
 use Prim.Native.Nat.{_+_}
 use native.Mathlib.Omega.{arith}
 use Rattle.fields.proofs.Fields.{short-is}

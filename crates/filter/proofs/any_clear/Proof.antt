@@ -1,3 +1,4 @@
+-- `filter::any_clear` meets its contract.
 use mathlib.Core.Path.{_≡_, refl, sym, ap, _∙_}
 use mathlib.Core.Bool.{false, not}
 use Prim.Native.Nat.{_≤_, _-_}

@@ -1,3 +1,4 @@
+-- `filter::bit_is_set` meets its contract.
 use mathlib.Core.Path.{refl}
 use Rattle.filter.specs.Filter.{isSet}
 use borrow.Author.Needs.{needs}

@@ -1,3 +1,4 @@
+-- `filter::set_bit` meets its contract.
 use mathlib.Core.Path.{refl}
 use Rattle.filter.specs.Filter.{withBit}
 use borrow.Author.Needs.{needs}

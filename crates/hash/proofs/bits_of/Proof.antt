@@ -1,3 +1,4 @@
+-- `hash::bits_of` meets its contract.
 use native.Mathlib.Omega.{arith}
 use Rattle.layout.proofs.Ranges.{filter-high}
 use Rattle.hash.proofs.Apart.{bits-four, bits-few, bits-many}

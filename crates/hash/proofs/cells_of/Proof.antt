@@ -1,3 +1,4 @@
+-- `hash::cells_of` meets its contract.
 use native.Mathlib.Omega.{arith}
 use Rattle.layout.proofs.Ranges.{part-high}
 use Rattle.hash.proofs.Apart.{cells-four}

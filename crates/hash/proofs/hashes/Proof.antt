@@ -1,3 +1,4 @@
+-- `hash::hashes` meets its contract.
 use mathlib.Core.Path.{_∙_}
 use Rattle.hash.proofs.Chain.{all-hashed}
 use borrow.Author.Needs.{needs}

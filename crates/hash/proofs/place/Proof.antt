@@ -1,3 +1,4 @@
+-- `hash::place` meets its contract.
 use native.Mathlib.Omega.{arith}
 use mathlib.Core.Path.{refl}
 use Rattle.hash.proofs.Chain.{product-lt}

@@ -1,3 +1,4 @@
+-- `layout::between` meets its contract.
 use borrow.Author.Tests.{lt-leb, le-leb}
 use Rattle.layout.proofs.between.Statement.{statement}
 use Rattle.layout.proofs.between.Tie as tie

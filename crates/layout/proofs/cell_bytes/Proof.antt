@@ -1,3 +1,4 @@
+-- `layout::cell_bytes` meets its contract.
 use native.Mathlib.Omega.{arith}
 use Rattle.layout.specs.Sizes.{cellBytes}
 use Rattle.layout.proofs.Ranges.{cell-bytes-high}

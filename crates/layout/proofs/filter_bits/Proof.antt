@@ -1,3 +1,4 @@
+-- `layout::filter_bits` meets its contract.
 use mathlib.Core.Path.{refl}
 use Rattle.layout.specs.Sizes.{filterBits}
 use borrow.Author.Needs.{needs}

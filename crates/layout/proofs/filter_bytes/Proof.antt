@@ -1,3 +1,4 @@
+-- `layout::filter_bytes` meets its contract.
 use mathlib.Core.Path.{refl}
 use Rattle.layout.specs.Sizes.{filterBytes}
 use borrow.Author.Needs.{needs}

@@ -1,16 +1,16 @@
-use borrow.Author.Tests.{not-true, not-false}
-use mathlib.Core.Path.{sym, _∙_}
+-- `layout::in_range` meets its contract.
 use Rattle.layout.specs.Sizes.{inRange}
 use borrow.Author.Needs.{needs}
 use Rattle.layout.proofs.in_range.Statement.{statement}
 use Rattle.layout.proofs.in_range.Tie as tie
+use Rattle.laws.proofs.Bools.{held, failed}
 
 between-requires : tie.Need-between-requires
 between-requires c κs = search needs
 
 returns : tie.Need-returns
 unfolding inRange
-returns c = rw (sym (c .before .between .ensures) ∙ not-true _ (c .if1 .taken))
+returns c = rw (failed (c .before .between .ensures) (c .if1 .taken))
 
 between-requires-2 : tie.Need-between-requires-2
 between-requires-2 c κs = search needs
@@ -18,9 +18,8 @@ between-requires-2 c κs = search needs
 returns-2 : tie.Need-returns-2
 unfolding inRange
 returns-2 c = rw (
-  sym (c .before .before .before .between .ensures) ∙ not-false _ (c .before .before .if1 .left),
-  sym (c .before .between2 .ensures) ∙ not-true _
-      (c .if2 .taken),
+  held (c .before .before .before .between .ensures) (c .before .before .if1 .left),
+  failed (c .before .between2 .ensures) (c .if2 .taken),
 )
 
 between-requires-3 : tie.Need-between-requires-3
@@ -30,11 +29,9 @@ returns-3 : tie.Need-returns-3
 unfolding inRange
 returns-3 c =
     rw (
-      sym (c .before .before .before .before .before .between .ensures) ∙ not-false _ (c .before .before .before .before .if1 .left),
-      sym
-          (c .before .before .before .between2 .ensures) ∙ not-false _ (c .before .before .if2 .left),
-      sym (c .before .between3 .ensures) ∙ not-true _
-          (c .if3 .taken),
+      held (c .before .before .before .before .before .between .ensures) (c .before .before .before .before .if1 .left),
+      held (c .before .before .before .between2 .ensures) (c .before .before .if2 .left),
+      failed (c .before .between3 .ensures) (c .if3 .taken),
     )
 
 between-requires-4 : tie.Need-between-requires-4
@@ -44,11 +41,9 @@ returns-4 : tie.Need-returns-4
 unfolding inRange
 returns-4 c =
     rw (
-      sym (c .before .before .before .before .before .before .between .ensures) ∙ not-false _
-          (c .before .before .before .before .before .if1 .left),
-      sym (c .before .before .before .before .between2 .ensures) ∙ not-false _
-          (c .before .before .before .if2 .left),
-      sym (c .before .before .between3 .ensures) ∙ not-false _ (c .before .if3 .left),
+      held (c .before .before .before .before .before .before .between .ensures) (c .before .before .before .before .before .if1 .left),
+      held (c .before .before .before .before .between2 .ensures) (c .before .before .before .if2 .left),
+      held (c .before .before .between3 .ensures) (c .before .if3 .left),
     )
     (c .between4 .ensures)
 

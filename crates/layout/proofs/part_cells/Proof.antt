@@ -1,3 +1,4 @@
+-- `layout::part_cells` meets its contract.
 use native.Mathlib.Omega.{arith}
 use mathlib.Core.Path.{refl}
 use Rattle.layout.specs.Sizes.{partCells}

@@ -1,3 +1,4 @@
+-- `layout::table_cells` meets its contract.
 use native.Mathlib.Omega.{arith}
 use Rattle.layout.specs.Sizes.{tableCells}
 use Rattle.layout.proofs.Ranges.{table-high}

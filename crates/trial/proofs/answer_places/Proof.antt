@@ -1,9 +1,9 @@
-use mathlib.Core.Path.{sym, _∙_}
-use borrow.Author.Tests.{not-false}
+-- `trial::answer_places` meets its contract.
 use Rattle.layout.proofs.Ranges.{ranged, lays-ipv4}
 use borrow.Author.Needs.{needs}
 use Rattle.trial.proofs.answer_places.Statement.{statement}
 use Rattle.trial.proofs.answer_places.Tie as tie
+use Rattle.laws.proofs.Bools.{held}
 
 slice-aggregate-say : tie.Need-slice-aggregate-say
 slice-aggregate-say c = search needs
@@ -49,15 +49,13 @@ cells-of-requires c κs =
     let e = c .ipv4 .ensures in (
       rw e lays-ipv4,
       ranged (c .before .before .before .before .before .sizes-at .result)
-          (sym (c .before .before .before .before .in-range .ensures) ∙ not-false (c .before .before .before .before .in-range .result)
-          (c .before .before .before .if2 .left)),
+          (held (c .before .before .before .before .in-range .ensures) (c .before .before .before .if2 .left)),
     )
 
 bits-of-requires : tie.Need-bits-of-requires
 bits-of-requires c κs =
     ranged (c .before .before .before .before .before .before .sizes-at .result)
-    (sym (c .before .before .before .before .before .in-range .ensures) ∙ not-false (c .before .before .before .before .before .in-range .result)
-    (c .before .before .before .before .if2 .left))
+    (held (c .before .before .before .before .before .in-range .ensures) (c .before .before .before .before .if2 .left))
 
 slice-aggregate-say-3 : tie.Need-slice-aggregate-say-3
 slice-aggregate-say-3 c = search needs

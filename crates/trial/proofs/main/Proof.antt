@@ -1,3 +1,4 @@
+-- `trial::main` meets its contract.
 use Prim.Native.Nat.{_≤_, _-_}
 use native.Mathlib.Omega.{arith}
 use Rattle.trial.proofs.main.Statement.{statement}

@@ -1,3 +1,4 @@
+-- `trial::say_some_hex` meets its contract.
 use Prim.Native.Nat.{_≤_, _-_, _*_}
 use mathlib.Core.Path.{_≡_, sym}
 use lib.Seq.{length-take-le}

@@ -1,3 +1,4 @@
+-- `hash::Fnv::byte` meets its contract.
 use Prim.Native.Nat.{_<_, _^_}
 use native.Mathlib.Omega.{arith}
 use lib.Bits.{bitXor, xor-lt}

@@ -1,3 +1,4 @@
+-- `hash::Fnv::bytes` meets its contract.
 use mathlib.Core.Path.{_≡_, refl}
 use Prim.Native.Nat.{_≤_, _-_}
 use native.Mathlib.Omega.{arith}

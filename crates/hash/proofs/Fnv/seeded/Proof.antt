@@ -1,3 +1,4 @@
+-- `hash::Fnv::seeded` meets its contract.
 use mathlib.Core.Path.{ap, _∙_}
 use Rattle.hash.specs.Fnv.{absorb}
 use Rattle.hash.proofs.Chain.{seeded-steps}

@@ -1,3 +1,4 @@
+-- `hash::Fnv::word` meets its contract.
 use Rattle.hash.proofs.Chain.{absorb-word}
 use borrow.Author.Needs.{needs}
 use Rattle.hash.proofs.Fnv.word.Statement.{statement}

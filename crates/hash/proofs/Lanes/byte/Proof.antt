@@ -1,3 +1,4 @@
+-- `hash::Lanes::byte` meets its contract.
 use Rattle.hash.proofs.Chain.{all-four}
 use borrow.Author.Needs.{needs}
 use Rattle.hash.proofs.Lanes.byte.Statement.{statement}

@@ -1,3 +1,4 @@
+-- `hash::Lanes::seeded` meets its contract.
 use mathlib.Core.Path.{ap, sym, _∙_}
 use native.Mathlib.Nat.{add-zero}
 use Prim.Native.Nat.{_+_}
