@@ -34,3 +34,4 @@ pub mod Exchange
 -- the ten cases
 pub mod Cases
 pub mod Unclean
+pub mod Collector

@@ -14,3 +14,4 @@ pub mod Notes
 pub mod Proper
 pub mod Cases
 pub mod Unclean
+pub mod Collector

@@ -1,12 +1,12 @@
 -- A table that no flowset encodes to, on which demand 3 fails: why its premises are there. k = 2, four cells.
-use mathlib.Core.Bool.{true, false, cond, _||_}
+use mathlib.Core.Bool.{true, cond, _||_}
 use mathlib.Core.List.{List, [], _∷_}
 use Prim.Native.Nat.{ℕ}
 use lib.Dec.{eqb}
 use lib.ListN.{getD}
 use Rattle.theory.specs.Flow.{Key}
 use Rattle.theory.specs.Encode.{Cell, Table, Placement}
-use Rattle.theory.specs.Session.{Session, keysOf, opened}
+use Rattle.theory.specs.Session.{keysOf, opened}
 use Rattle.theory.specs.Settle.{Stop}
 use Rattle.theory.specs.HandOver.{Switch, Call, calls, settleAt}
 use Rattle.theory.specs.Report.{State, report}

@@ -17,7 +17,7 @@ use crate::image::{mend_check, read, seal, Header, ReadRefusal};
 use crate::ipv4::Ipv4;
 use crate::key::Key;
 use crate::layout::*;
-use crate::memory::{seed_reaching, Memory, Noise, CLEAN_NOISE, NOISE, ONES, ZEROS};
+use crate::memory::{seed_reaching, Memory, Noise, NOISE};
 use crate::refusal::{number_of, Refusal};
 use crate::request::{parse_stream, write_stream, Request, Run, ENCODER, HASH, READ};
 use crate::shrink::shrink;
@@ -35,6 +35,7 @@ pub fn selftest() -> bool {
         keys,
         zero_key,
         two_packets,
+        mixed_keys,
         counters,
         refusals_keep,
         blocks,
@@ -44,6 +45,7 @@ pub fn selftest() -> bool {
         noise,
         modes,
         seeds,
+        ops,
         streams,
         runs,
         edge_answers,
@@ -208,6 +210,34 @@ fn two_packets(tally: &mut Tally) {
     }
     cells[20 * 7 + 13] = 99;
     tally.equal("cells, with the zero byte left alone", &encoder.cells, &cells);
+}
+
+/// A new flow XORs its key into what is there, and all flows of a part together give the XOR of their keys.
+fn mixed_keys(tally: &mut Tally) {
+    let mut encoder = Encoder::new(MIDDLE);
+    encoder.cell(59)[..KEY_BYTES].fill(255);
+    tally.equal("new", encoder.packet(&tcp()), Ok(Flow::New));
+    tally.equal("into ones", encoder.cell(59)[..KEY_BYTES].to_vec(), TCP_KEY.map(|byte| !byte).to_vec());
+    tally.equal("into zeros", encoder.cell(7)[..KEY_BYTES].to_vec(), TCP_KEY.to_vec());
+
+    let mut encoder = Encoder::new(MIDDLE);
+    let mut wanted = [0; KEY_BYTES];
+    let mut flows = 0;
+    for port in 0..400 {
+        let packet = Ipv4::with_ports(6, 0x0a00_0001, u32::from(port) << 7, (port, 80)).bytes();
+        if encoder.packet(&packet) == Ok(Flow::New) {
+            let key = Key::of_packet(&packet).expect("a good packet").to_bytes();
+            wanted.iter_mut().zip(key).for_each(|(mixed, byte)| *mixed ^= byte);
+            flows += 1;
+        }
+    }
+    for part in encoder.cells.chunks(CELL_BYTES * MIDDLE.sizes.part()) {
+        let found = std::array::from_fn(|at| part.chunks(CELL_BYTES).fold(0, |mixed, cell| mixed ^ cell[at]));
+        tally.equal("keys of a part", found, wanted);
+        let counted = |at: usize| part.chunks(CELL_BYTES).map(|cell| u32::from(u16_at(cell, at))).sum::<u32>();
+        tally.equal("flows of a part", counted(FLOW_COUNT.start), flows);
+        tally.equal("packets of a part", counted(PACKET_COUNT.start + 2), 400);
+    }
 }
 
 /// One full cell refuses; FlowCount asks only new flows; counts carry over their bytes.
@@ -433,14 +463,15 @@ fn modes(tally: &mut Tally) {
     let memory = |mode| Memory::of_run(&Run::new(header, mode, 0, Vec::new()));
     let mut stream = Noise::new(0);
     let all: Vec<u8> = (0..960 + 2_880 + 4_096).map(|_| stream.byte()).collect();
-    let noise = memory(NOISE);
+    let noise = memory(1);
+    tally.holds("noise before a start", memory(0) == noise);
     tally.holds("noise runs on", [&noise.filter[..], &noise.cells, &noise.image].concat() == all);
-    for (mode, byte) in [(ZEROS, 0), (ONES, 255)] {
+    for (mode, byte) in [(2, 0), (3, 255)] {
         let plain = memory(mode);
         tally.holds("plain memory", [plain.filter, plain.cells].concat().iter().all(|&found| found == byte));
         tally.holds("noise starts at the image", plain.image == all[..4_096]);
     }
-    let clean = memory(CLEAN_NOISE);
+    let clean = memory(4);
     let kept = |at: usize| at % 20 != 13 || at / 20 == 3;
     let wanted: Vec<u8> = noise.cells.iter().enumerate().map(|(at, &byte)| if kept(at) { byte } else { 0 }).collect();
     tally.holds("clean noise", clean.cells == wanted && clean.filter == noise.filter && clean.image == noise.image);
@@ -458,6 +489,18 @@ fn seeds(tally: &mut Tally) {
             tally.equal("flows", u16_at(&cell_of(Counter::Flows), 14), u16::MAX - one_short as u16);
         }
     }
+}
+
+/// The protocol's numbers, written out.
+fn ops(tally: &mut Tally) {
+    let line = |op, payload: &[u8]| answer(&Request::new(op, payload)).line;
+    tally.equal("op 1", line(1, b"a"), "e40c292c".into());
+    tally.equal("op 2", line(2, &[]), "6".into());
+    tally.equal("op 3", line(3, &[0; 21]), "3".into());
+    tally.equal("op 4, mode 0", line(4, &[0; 23]), "3 3 . . .".into());
+    tally.equal("op 4, mode 1", line(4, &[&[0; 18][..], &[1, 0, 0, 0, 0]].concat()), "- 3 . . .".into());
+    tally.equal("op 5", line(5, &[0; 4]), "1 0".into());
+    tally.equal("op 6", line(6, &[]), "op".into());
 }
 
 fn streams(tally: &mut Tally) {
