@@ -1,16 +1,18 @@
 -- What is asked, done or listed for each index below n.
-use mathlib.Core.Path.{_≡_, refl, sym, ap, _∙_}
-use mathlib.Core.Bool.{Bool, true, false, _&&_, _||_}
-use mathlib.Core.List.{[], _∷_}
+use mathlib.Core.Path.{_≡_, refl, sym, ap, _∙_, subst}
+use mathlib.Core.Bool.{Bool, true, false, _&&_, _||_, cond}
+use mathlib.Core.List.{[], _∷_, List}
 use mathlib.Core.Logic.{inl, inr}
-use Prim.Native.Nat.{ℕ, zero, suc, _+_, _<_}
+use Prim.Native.Nat.{ℕ, zero, suc, _+_, _<_, _≤_}
 use native.Mathlib.Decide.{ℕ-discrete}
 use native.Mathlib.Numerals.{add-one}
 use native.Mathlib.Omega.{arith}
-use lib.ListN.{length, getD, length-append, List·getD-append}
-use lib.Seq.{getD-at}
+use lib.ListN.{length, getD, length-append, List·getD-append, set, length-set}
+use lib.Seq.{getD-at, getD-set-same, getD-set-other}
 use Rattle.laws.specs.Upto.{anyUpto, allUpto, eachUpto, listUpto}
-use Rattle.laws.proofs.Bools.{split, clash, and-l, and-r, and-i, or-e, or-l, or-r}
+use Rattle.laws.proofs.Bools.{split, clash, and-l, and-r, and-i, or-e, or-l, or-r, or-f}
+use borrow.Author.Tests.{eqb-true, eq-eqb, ne-eqb}
+use lib.Dec.{eqb}
 
 pub any-yes : (n : ℕ) (p : ℕ → Bool) (i : ℕ) → i < n → p i ≡ true → anyUpto n p ≡ true
 unfolding anyUpto
@@ -111,3 +113,85 @@ list-four f p q r s = rw (p, q, r, s)
 pub four-are : {A : Type 0} (f : ℕ → A) {a b c d : A} → (a ∷ b ∷ c ∷ d ∷ []) ≡ listUpto 4 f → (a ≡ f 0) × (b ≡ f 1) × (c ≡ f 2) × (d ≡ f 3)
 unfolding listUpto
 four-are f e = (cc, cc, cc, cc)
+
+pub list-same : {A : Type 0} (n : ℕ) (f g : ℕ → A) → ((i : ℕ) → i < n → f i ≡ g i) → listUpto n f ≡ listUpto n g
+unfolding listUpto
+list-same zero f g h = refl
+list-same (suc n) f g h = rw (list-same n f g (λ i l. h i (omega arith)), h n (omega arith))
+
+-- a test of the first k of four places that a function gives
+pub any-at : (k : ℕ) (f : ℕ → ℕ) (p : ℕ → Bool) {at : List ℕ} → k ≤ 4 → at ≡ listUpto 4 f → anyUpto k (λ i. p (getD at i 0)) ≡ anyUpto k
+    (λ i. p (f i))
+any-at k f p {at = at} h e =
+    any-same k (λ i. p (getD at i 0)) (λ i. p (f i)) (λ i l. ap p (rw e (list-at 4 f 0 i (omega arith))))
+
+-- step i changes what is seen at place i, and nothing else
+module _ {A B : Type 0} (P : A → Type 0) (seen : A → ℕ → B) (change : ℕ → B → B) (at : ℕ → ℕ) (f : ℕ → A → A) (k : ℕ)
+    (apart : (i j : ℕ) → (i ≡ j → ⊥) → at i ≡ at j → ⊥)
+    (kept : (i : ℕ) (a : A) → i < k → P a → P (f i a))
+    (here : (i : ℕ) (a : A) → i < k → P a → seen (f i a) (at i) ≡ change (at i) (seen a (at i)))
+    (there : (i : ℕ) (a : A) (c : ℕ) → i < k → P a → (c ≡ at i → ⊥) → seen (f i a) c ≡ seen a c)
+    (a : A) (p : P a) where
+  kept-upto : (m : ℕ) → m ≤ k → P (eachUpto m f a)
+  unfolding eachUpto
+  kept-upto zero h = p
+  kept-upto (suc m) h = kept m (eachUpto m f a) (omega arith) (kept-upto m (omega arith))
+
+  seen-upto : (m : ℕ) → m ≤ k → (c : ℕ) → seen (eachUpto m f a) c ≡ cond (anyUpto m (λ i. eqb (at i) c)) (change c (seen a c)) (seen a c)
+  unfolding eachUpto anyUpto
+  seen-upto zero h c = refl
+  seen-upto (suc m) h c =
+      let b = eachUpto m f a in
+      let q = kept-upto m (omega arith) in
+      let before = seen-upto m (omega arith) c in
+      elim (split (eqb (at m) c)) [
+        | inl e ↦
+            (let s = eqb-true (at m) c e in
+            let none = any-no m (λ i. eqb (at i) c) (λ i l. ne-eqb (at i) c (λ w. apart i m (λ r. omega arith) (w ∙ sym s))) in
+            let changed = subst (λ d. seen (f m b) d ≡ change d (seen b d)) s (here m b (omega arith) q) in
+            rw (none, e) (changed ∙ ap (change c) (rw none at before)))
+        | inr e ↦
+            rw (e, or-f (anyUpto m (λ i. eqb (at i) c)))
+            (there m b c (omega arith) q (λ w. clash (eq-eqb (at m) c (sym w)) e) ∙ before)
+      ]
+
+  -- each of the first k places is changed once, and all else is as it was
+  pub each-at : (c : ℕ) → seen (eachUpto k f a) c ≡ cond (anyUpto k (λ i. eqb (at i) c)) (change c (seen a c)) (seen a c)
+  each-at = seen-upto k (omega arith)
+
+-- numbers of a list renewed, one after the other, at k places
+module _ (new places : ℕ → ℕ) where
+  abbrev renew : ℕ → List ℕ → List ℕ
+  renew k s = eachUpto k (λ i t. set t (places i) (new (getD t (places i) 0))) s
+
+  pub length-renew : (k : ℕ) (s : List ℕ) → length (renew k s) ≡ length s
+  unfolding eachUpto
+  length-renew zero s = refl
+  length-renew (suc k) s = length-set (renew k s) (places k) (new (getD (renew k s) (places k) 0)) ∙ length-renew k s
+
+  -- where the places differ, each is renewed once, and no other number
+  pub renew-at : (k : ℕ) (s : List ℕ) → ((i : ℕ) → i < k → places i < length s) → ((i j : ℕ) → (i ≡ j → ⊥) → places i ≡ places j → ⊥)
+      → (c : ℕ) → getD (renew k s) c 0 ≡ cond (anyUpto k (λ i. eqb (places i) c)) (new (getD s c 0)) (getD s c 0)
+  unfolding eachUpto anyUpto
+  renew-at zero s within differ c = refl
+  renew-at (suc k) s within differ c =
+      let before = renew-at k s (λ i h. within i (omega arith)) differ in
+      elim (ℕ-discrete c (places k)) [
+        | yes e ↦
+            let none = any-no k (λ i. eqb (places i) (places k)) (λ i h. ne-eqb (places i) (places k) (differ i k (λ q. omega arith))) in
+            let same : getD (renew k s) (places k) 0 ≡ getD s (places k) 0 = before (places k) ∙ rw none in
+            rw (
+              e,
+              none,
+              eq-eqb (places k) (places k) refl,
+              getD-set-same (renew k s) (places k) (new (getD (renew k s) (places k) 0)) 0
+                  (omega (arith, length-renew k s, within k (omega arith))),
+              same,
+            )
+        | no d ↦
+            rw (
+              getD-set-other (renew k s) (places k) c (new (getD (renew k s) (places k) 0)) 0 d,
+              ne-eqb (places k) c (λ q. d (sym q)),
+              or-f (anyUpto k (λ i. eqb (places i) c)),
+            ) (before c)
+      ]

@@ -1,0 +1,3 @@
+-- Laws of the list of found flows.
+pub mod Laws
+pub mod Outcomes
