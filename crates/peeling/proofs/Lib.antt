@@ -1,0 +1,5 @@
+-- Laws of peeling.
+pub mod Table
+pub mod Seen
+pub mod Answers
+pub mod Loop
