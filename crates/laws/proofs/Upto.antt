@@ -125,6 +125,12 @@ pub any-at : (k : ℕ) (f : ℕ → ℕ) (p : ℕ → Bool) {at : List ℕ} → 
 any-at k f p {at = at} h e =
     any-same k (λ i. p (getD at i 0)) (λ i. p (f i)) (λ i l. ap p (rw e (list-at 4 f 0 i (omega arith))))
 
+-- the steps at the first k of four such places
+pub steps-at : {A : Type 0} (k : ℕ) (f : ℕ → ℕ) (g : ℕ → A → A) (a : A) {at : List ℕ} → k ≤ 4 → at ≡ listUpto 4 f
+    → eachUpto k (λ i. g (getD at i 0)) a ≡ eachUpto k (λ i. g (f i)) a
+steps-at k f g a {at = at} h e =
+    each-same k (λ i. g (getD at i 0)) (λ i. g (f i)) a (λ i b l. ap (λ c. g c b) (rw e (list-at 4 f 0 i (omega arith))))
+
 -- step i changes what is seen at place i, and nothing else
 module _ {A B : Type 0} (P : A → Type 0) (seen : A → ℕ → B) (change : ℕ → B → B) (at : ℕ → ℕ) (f : ℕ → A → A) (k : ℕ)
     (apart : (i j : ℕ) → (i ≡ j → ⊥) → at i ≡ at j → ⊥)

@@ -4,6 +4,7 @@ use mathlib.Core.Bool.{true}
 use mathlib.Core.List.{List, _++_}
 use mathlib.Core.Logic.{inl}
 use Prim.Native.Nat.{ℕ, _+_, _-_, _*_, _<_, _≤_}
+use native.Mathlib.Nat.{mul-le-mul, mul-le-mul-right}
 use native.Mathlib.Omega.{arith}
 use borrow.Author.Tests.{eq-eqb, eqb-true}
 use lib.Bits.{bitOr}
@@ -15,7 +16,10 @@ use Rattle.laws.proofs.Digits.{digit-or, digit-lt, digit-pow, digit-pow-other}
 use Rattle.laws.proofs.Lists.{length-part, part-sets-same, part-sets-other, lent-sets}
 use Rattle.laws.proofs.Upto.{any-some, any-yes, all-at, all-yes}
 use Rattle.layout.specs.declared.Layout.{Layout}
-use Rattle.list.specs.Records.{Records, Room, keyAt, isKnown, isHanded, sameBytes, isListed, appended, knownAt, withCount}
+use Rattle.layout.specs.declared.Sizes.{Sizes}
+use Rattle.layout.specs.Sizes.{Lays, Ranged, tableCells}
+use Rattle.layout.proofs.Ranges.{table-high, cell-high}
+use Rattle.list.specs.Records.{Records, records, Room, keyAt, isKnown, isHanded, sameBytes, isListed, appended, knownAt, withCount}
 use Rattle.laws.proofs.Rows.{row-within}
 
 -- ---- keys
@@ -67,6 +71,19 @@ module _ (l : Layout) (keys : List ℕ) where
   key-kept n key i h = part-sets-other key keys (n * l .key) (i * l .key) (l .key) 0 (inl (row-within i n (l .key) h))
 
 -- ---- lengths
+pub key-inside : {l : Layout} {m : ℕ} {rs : Records} (n : ℕ) → Room l m rs → n < m → n * l .key + l .key ≤ length (rs .keys)
+key-inside {l} {m} n r h = omega (arith, r .keys-fit, row-within n m (l .key) h)
+
+pub keys-inside : {l : Layout} {m : ℕ} {rs : Records} (n : ℕ) → Room l m rs → n ≤ m → n * l .key ≤ length (rs .keys)
+keys-inside {l} n r h = omega (arith, r .keys-fit, mul-le-mul-right (l .key) h)
+
+-- places of the keys of at most 2 N records are small numbers
+pub key-small : {l : Layout} {z : Sizes} (n : ℕ) → Lays l → Ranged z → n ≤ 2 * tableCells l z → n * l .key + l .key ≤ 1475040
+key-small {l} {z} n lays r h =
+    let small = cell-high l z lays r in
+    let p = mul-le-mul {n₁ = n} {m₁ = l .key} {n₂ = 3072} {m₂ = 480} (omega (arith, table-high l z lays r)) (omega (arith, lays .key-fits)) in
+    omega (arith, lays .key-fits)
+
 pub room-appended : (l : Layout) (m n : ℕ) (key : List ℕ) (flag : ℕ) (rs : Records) → Room l m rs → Room l m (appended l n key flag rs)
 unfolding appended
 room-appended l m n key flag rs r = record {

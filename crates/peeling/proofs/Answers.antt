@@ -4,7 +4,6 @@ use mathlib.Core.Bool.{Bool, true, false, _||_}
 use mathlib.Core.List.{List}
 use mathlib.Core.Logic.{inl, inr}
 use Prim.Native.Nat.{ℕ, _+_, _-_, _*_, _<_, _≤_}
-use native.Mathlib.Nat.{mul-le-mul, mul-le-mul-right}
 use native.Mathlib.Omega.{arith}
 use borrow.Author.Tests.{le-ltb, lt-ltb, le-leb, lt-leb, leb-false, ltb-true}
 use lib.Dec.{leb, ltb}
@@ -13,11 +12,11 @@ use Rattle.laws.specs.Upto.{listUpto}
 use Rattle.laws.proofs.Bools.{split}
 use Rattle.layout.specs.declared.Layout.{Layout}
 use Rattle.layout.specs.declared.Sizes.{Sizes}
-use Rattle.layout.specs.Sizes.{Lays, Ranged, tableCells}
-use Rattle.layout.proofs.Ranges.{table-high, cell-high}
+use Rattle.layout.specs.Sizes.{tableCells}
+use Rattle.layout.proofs.Ranges.{table-high}
 use Rattle.hash.specs.Places.{cellOf}
 use Rattle.list.specs.Records.{Records, Room, keyAt, isListed, appended}
-use Rattle.list.proofs.Laws.{length-key, key-appended, room-appended}
+use Rattle.list.proofs.Laws.{length-key, key-inside, keys-inside, key-appended, room-appended}
 use Rattle.marks.specs.Marks.{firstMark, putMark}
 use Rattle.peeling.specs.Table.{Tab, Fit, InBytes, Within, anyEmpty, hasEmpty, takenOut}
 use Rattle.peeling.specs.Seen.{seenBit, seenBitOf, ClearMeansNew}
@@ -31,19 +30,6 @@ use Rattle.laws.proofs.Rows.{row-within}
 -- ---- where keys lie
 pub xor-inside : {l : Layout} {z : Sizes} {t : Tab} (c : ℕ) → Fit l z t → c < tableCells l z → InBytes l (length (t .xors)) c
 xor-inside {l} {z} c f h = omega (arith, f .xors-fit, row-within c (tableCells l z) (l .key) h)
-
-pub key-inside : {l : Layout} {m : ℕ} {rs : Records} (n : ℕ) → Room l m rs → n < m → n * l .key + l .key ≤ length (rs .keys)
-key-inside {l} {m} n r h = omega (arith, r .keys-fit, row-within n m (l .key) h)
-
-pub keys-inside : {l : Layout} {m : ℕ} {rs : Records} (n : ℕ) → Room l m rs → n ≤ m → n * l .key ≤ length (rs .keys)
-keys-inside {l} n r h = omega (arith, r .keys-fit, mul-le-mul-right (l .key) h)
-
--- places of records are small numbers
-pub key-small : {l : Layout} {z : Sizes} (n : ℕ) → Lays l → Ranged z → n ≤ 2 * tableCells l z → n * l .key + l .key ≤ 1475040
-key-small {l} {z} n lays r h =
-    let small = cell-high l z lays r in
-    let p = mul-le-mul {n₁ = n} {m₁ = l .key} {n₂ = 3072} {m₂ = 480} (omega (arith, table-high l z lays r)) (omega (arith, lays .key-fits)) in
-    omega (arith, lays .key-fits)
 
 -- the key just appended is read back
 pub key-back : (l : Layout) {m : ℕ} (n : ℕ) (key : List ℕ) (flag : ℕ) (rs : Records) {rs′ : Records} → Room l m rs → n < m → length key ≡ l .key

@@ -1,21 +1,36 @@
 //! The filter bits and the cells of a flow. The sizes are in range here.
 
+use crate::encoder::is_set;
 use crate::hash::{place, Fnv};
 use crate::sizes::Sizes;
 
 const ROLE_FILTER: u8 = 0x46;
 const ROLE_CELLS: u8 = 0x43;
 
-fn hash(salt: u32, role: u8, index: u8, key: &[u8]) -> u32 {
-    Fnv::new().bytes(&salt.to_be_bytes()).byte(role).byte(index).bytes(key).value()
+fn start(salt: u32, role: u8, index: u8) -> Fnv {
+    Fnv::new().bytes(&salt.to_be_bytes()).byte(role).byte(index)
+}
+
+/// The state of cell hash `index` before the key.
+pub fn cell_start(salt: u32, index: u8) -> Fnv {
+    start(salt, ROLE_CELLS, index)
+}
+
+fn filter_bit(sizes: Sizes, salt: u32, index: u8, key: &[u8]) -> usize {
+    place(start(salt, ROLE_FILTER, index).bytes(key).value(), sizes.filter_bits())
 }
 
 pub fn filter_bits(sizes: Sizes, salt: u32, key: &[u8]) -> Vec<usize> {
-    (0..sizes.kf).map(|i| place(hash(salt, ROLE_FILTER, i, key), sizes.filter_bits())).collect()
+    (0..sizes.kf).map(|i| filter_bit(sizes, salt, i, key)).collect()
+}
+
+/// Whether the filter has all of the flow's bits.
+pub fn passes(sizes: Sizes, salt: u32, filter: &[u8], key: &[u8]) -> bool {
+    (0..sizes.kf).all(|i| is_set(filter, filter_bit(sizes, salt, i, key)))
 }
 
 /// Hash i chooses in part i, so the cells of a flow always differ.
 pub fn cells(sizes: Sizes, salt: u32, key: &[u8]) -> Vec<usize> {
     let part = sizes.part();
-    (0..sizes.k).map(|i| usize::from(i) * part + place(hash(salt, ROLE_CELLS, i, key), part)).collect()
+    (0..sizes.k).map(|i| usize::from(i) * part + place(cell_start(salt, i).bytes(key).value(), part)).collect()
 }

@@ -1,5 +1,5 @@
-//! An independent program for document 01's hashing, encoder and image: it answers the stream of a trial, makes such
-//! streams, and compares a trial's lines with its own.
+//! An independent program for document 01: hashing, encoder, image, session, exchange and printing. It answers the
+//! stream of a trial, makes such streams, and compares a trial's lines with its own.
 
 mod answer;
 mod bytes;
@@ -7,22 +7,36 @@ mod compare;
 mod counters;
 mod edges;
 mod encoder;
+mod engine;
+mod exchange;
 mod expected;
 mod flow;
 mod generate;
 mod hash;
 mod image;
+mod index;
 mod ipv4;
 mod key;
 mod layout;
+mod marked;
 mod memory;
+mod places;
+mod print;
 mod random;
 mod refusal;
+mod report;
 mod request;
+mod rescanning;
 mod selftest;
+mod session;
+mod session_tests;
+mod settle;
 mod shrink;
 mod sizes;
+mod sizing;
+mod table;
 mod trial;
+mod words;
 
 use std::io::{self, Read, Write};
 use std::process::ExitCode;
@@ -34,6 +48,8 @@ const USAGE: &str = "usage: independent answer < REQUESTS
        independent edges
        independent compare TRIAL SEED COUNT
        independent compare TRIAL edges
+       independent print < SLOT_AND_IMAGE
+       independent sizing SEED RUNS
        independent selftest";
 
 fn main() -> ExitCode {
@@ -61,6 +77,11 @@ fn run(words: &[&str]) -> io::Result<bool> {
         ["compare", trial, seed, count] => {
             let requests = generate::requests(number(seed)?, number(count)? as usize);
             print_comparison(trial, &format!("seed {seed} count {count}"), &requests)
+        }
+        ["print"] => print_flows().map(|()| true),
+        ["sizing", seed, runs] => {
+            let text = sizing::sizing(number(seed)?, number(runs)?.max(1) as usize);
+            io::stdout().lock().write_all(text.as_bytes()).map(|()| true)
         }
         ["selftest"] => Ok(selftest::selftest()),
         _ => Err(io::Error::other(USAGE)),
@@ -91,4 +112,10 @@ fn answer_stream() -> io::Result<()> {
         writeln!(out, "{}", answer::answer(request).line)?;
     }
     out.flush()
+}
+
+fn print_flows() -> io::Result<()> {
+    let mut input = Vec::new();
+    io::stdin().lock().read_to_end(&mut input)?;
+    io::stdout().lock().write_all(print::print(&input).as_bytes())
 }

@@ -35,10 +35,35 @@ pub enum Refusal {
     // 7
     PacketCountFull,
     FlowCountFull,
+    // 8, not a session
+    SessionSizes,
+    OverListed,
+    Repeated,
+    KnownZero,
+    OverHanded,
+    OverPeeled,
+    WrongMark,
+    WrongNumber,
+    // 9 to 12, a hand-over
+    NotInFilter,
+    Listed,
+    EmptyCell,
+    HandedFull,
+    // 13
+    ListFull,
+    // 14, a peel or a count
+    PeelListed,
+    PeelEmptyCell,
+    CountZero,
+    CountOver,
+    // 15
+    OtherSlot,
     // 16
     FilterRoom,
     CellsRoom,
     ImageRoom,
+    MarksRoom,
+    NumbersRoom,
 }
 
 impl Refusal {
@@ -51,7 +76,16 @@ impl Refusal {
             Stale => 5,
             PacketShort | Version | HeaderShort | HeaderLong | PortsShort => 6,
             PacketCountFull | FlowCountFull => 7,
-            FilterRoom | CellsRoom | ImageRoom => 16,
+            SessionSizes | OverListed | Repeated | KnownZero => 8,
+            OverHanded | OverPeeled | WrongMark | WrongNumber => 8,
+            NotInFilter => 9,
+            Listed => 10,
+            EmptyCell => 11,
+            HandedFull => 12,
+            ListFull => 13,
+            PeelListed | PeelEmptyCell | CountZero | CountOver => 14,
+            OtherSlot => 15,
+            FilterRoom | CellsRoom | ImageRoom | MarksRoom | NumbersRoom => 16,
         }
     }
 }

@@ -1,6 +1,6 @@
 //! Checks of this program itself: it is the yardstick, so its own numbers are written by hand from 01.
 
-use std::collections::BTreeSet;
+use std::collections::{BTreeMap, BTreeSet};
 use std::fmt::Debug;
 
 use crate::answer::answer;
@@ -20,10 +20,11 @@ use crate::layout::*;
 use crate::memory::{seed_reaching, Memory, Noise, NOISE};
 use crate::refusal::{number_of, Refusal};
 use crate::request::{parse_stream, write_stream, Request, Run, ENCODER, HASH, READ};
+use crate::session_tests;
 use crate::shrink::shrink;
 use crate::sizes::Sizes;
 
-const MIDDLE: Header = Header { sizes: Sizes { kf: 3, f: 2, k: 3, q: 2 }, salt: 9, slot: 7 };
+pub const MIDDLE: Header = Header { sizes: Sizes { kf: 3, f: 2, k: 3, q: 2 }, salt: 9, slot: 7 };
 
 /// Prints the counts, and says whether all is well.
 pub fn selftest() -> bool {
@@ -56,18 +57,21 @@ pub fn selftest() -> bool {
     ] {
         group(&mut tally);
     }
+    session_tests::run(&mut tally);
+    tally.answers.iter().for_each(|(answer, count)| println!("{count:8} {answer}"));
     println!("{} passed, {} failed", tally.passed, tally.failed);
     tally.failed == 0
 }
 
 #[derive(Default)]
-struct Tally {
+pub struct Tally {
     passed: usize,
     failed: usize,
+    answers: BTreeMap<String, usize>,
 }
 
 impl Tally {
-    fn equal<T: PartialEq + Debug>(&mut self, name: &str, found: T, wanted: T) {
+    pub fn equal<T: PartialEq + Debug>(&mut self, name: &str, found: T, wanted: T) {
         if found == wanted {
             self.passed += 1;
         } else {
@@ -76,40 +80,61 @@ impl Tally {
         }
     }
 
-    fn holds(&mut self, name: &str, holds: bool) {
+    pub fn holds(&mut self, name: &str, holds: bool) {
         self.equal(name, holds, true);
+    }
+
+    /// For checks in great number: what is wrong is put into words only where something is.
+    pub fn holds_in(&mut self, name: &str, what: &str, holds: bool) {
+        if holds {
+            self.passed += 1;
+        } else {
+            self.holds(&format!("{name}: {what}"), false);
+        }
+    }
+
+    pub fn met(&mut self, answer: impl Into<String>) {
+        *self.answers.entry(answer.into()).or_insert(0) += 1;
+    }
+
+    /// Fails for each answer that was never met.
+    pub fn must_have_met(&mut self, answers: impl IntoIterator<Item = String>) {
+        for answer in answers {
+            let met = self.answers.contains_key(&answer);
+            self.holds(&format!("{answer} occurred"), met);
+        }
     }
 }
 
 /// Working memory with the calls on it.
-struct Encoder {
-    header: Header,
-    filter: Vec<u8>,
-    cells: Vec<u8>,
+pub struct Encoder {
+    pub header: Header,
+    pub filter: Vec<u8>,
+    pub cells: Vec<u8>,
 }
 
 impl Encoder {
-    fn new(header: Header) -> Self {
+    pub fn new(header: Header) -> Self {
         let sizes = header.sizes;
         Encoder { header, filter: vec![0; sizes.filter_bytes()], cells: vec![0; sizes.cells_bytes()] }
     }
 
-    fn packet(&mut self, packet: &[u8]) -> Result<Flow, Refusal> {
+    pub fn packet(&mut self, packet: &[u8]) -> Result<Flow, Refusal> {
         encoder::packet(self.header.sizes, self.header.salt, &mut self.filter, &mut self.cells, packet)
     }
 
-    fn sealed(&self) -> Vec<u8> {
+    pub fn sealed(&self) -> Vec<u8> {
         let mut image = vec![0xee; self.header.sizes.image_bytes()];
         seal(self.header, &self.filter, &self.cells, &mut image).expect("a good call");
         image
     }
 
-    fn cell(&mut self, number: usize) -> &mut [u8] {
+    pub fn cell(&mut self, number: usize) -> &mut [u8] {
         &mut self.cells[CELL_BYTES * number..][..CELL_BYTES]
     }
 }
 
-fn tcp() -> Vec<u8> {
+pub fn tcp() -> Vec<u8> {
     Ipv4::with_ports(6, 0x0a00_0001, 0x0a00_0002, (1024, 80)).bytes()
 }
 

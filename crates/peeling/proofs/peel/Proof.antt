@@ -8,9 +8,9 @@ use Rattle.layout.specs.Sizes.{tableCells}
 use Rattle.layout.proofs.Ranges.{table-high}
 use Rattle.hash.specs.Places.{cellOf}
 use Rattle.list.specs.Records.{Records, records, keyAt}
-use Rattle.list.proofs.Laws.{key-part, length-key}
+use Rattle.list.proofs.Laws.{key-part, length-key, key-inside, keys-inside, key-small}
 use Rattle.peeling.specs.Table.{Tab, tab, InBytes}
-use Rattle.peeling.proofs.Answers.{xor-inside, key-inside, keys-inside, key-small, key-back, back-inside, first-two, all-places, clear-means-new}
+use Rattle.peeling.proofs.Answers.{xor-inside, key-back, back-inside, first-two, all-places, clear-means-new}
 use Rattle.peeling.proofs.Answers.{peel-quiet, peel-full, peel-damaged, peel-taken}
 use borrow.Author.Needs.{needs}
 use Rattle.peeling.proofs.peel.Statement.{statement}

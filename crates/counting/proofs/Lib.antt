@@ -1,0 +1,4 @@
+-- Laws of counting.
+pub mod Book
+pub mod Answers
+pub mod Loop

@@ -1,0 +1,87 @@
+-- Counting step after step, as the loop goes.
+use mathlib.Core.Path.{_≡_, refl, sym, ap, subst, _∙_}
+use mathlib.Core.List.{List, [], _∷_}
+use mathlib.Core.Logic.{⊎-elim, _⊎_}
+use Prim.Native.Nat.{ℕ, zero, suc, _-_, _<_, _≤_}
+use native.Mathlib.Omega.{arith}
+use types.Run.{OneOf}
+use denote.Enum.Declared.{tagOf}
+use lib.ListN.{length, replicate}
+use Rattle.layout.specs.declared.Layout.{Layout}
+use Rattle.layout.specs.declared.Sizes.{Sizes}
+use Rattle.layout.specs.Sizes.{tableCells}
+use Rattle.list.specs.Records.{Records}
+use Rattle.counting.specs.Book.{Book, book, readyUpto}
+use Rattle.counting.specs.Count.{Fits, Counted, counted, countOf, Ended, ended, stopAt, endedAt, afterCount, countsUpto, countsOf}
+use Rattle.counting.specs.declared.Step.{Step}
+use Rattle.counting.specs.declared.Step.the-variants.{Quiet, Damaged, Next}
+use Rattle.counting.specs.declared.Stop.{Stop}
+use Rattle.counting.proofs.Step as step
+use Rattle.counting.proofs.Book.{length-upto}
+use Rattle.counting.proofs.Answers.{fits-step}
+
+-- at most m steps are left, and counting goes on from here as it does from the start
+pub record Going (l : Layout) (z : Sizes) (salt n : ℕ) (flows : List ℕ) (m : ℕ) (b : Book) (rs : Records) (end : Ended) : Type 0 where
+  pub fits : Fits l z n flows b rs
+  pub goes : countsUpto m l z salt n flows b rs ≡ end
+
+-- with the ready cells found
+pub going : (l : Layout) (z : Sizes) (salt n : ℕ) (flows packets unknowns positions : List ℕ) (rs : Records) {ready : List ℕ} {cells : ℕ}
+    → Fits l z n flows (book packets unknowns positions (replicate 24 0)) rs → cells ≡ tableCells l z → ready ≡ readyUpto flows unknowns cells
+    → Going l z salt n flows n (book packets unknowns positions ready) rs (countsOf l z salt n flows packets unknowns positions rs)
+unfolding countsOf
+going l z salt n flows packets unknowns positions rs {ready} {cells} f s e = record {
+  fits = record {
+    lays = f .lays;
+    ranged = f .ranged;
+    listed = f .listed;
+    room = f .room;
+    cells = record {
+      few = f .cells .few;
+      flows-fit = f .cells .flows-fit;
+      packets-fit = f .cells .packets-fit;
+      unknowns-fit = f .cells .unknowns-fit;
+      positions-fit = f .cells .positions-fit;
+      ready-fit = ap length e ∙ length-upto flows unknowns cells;
+    };
+  };
+  goes = ap (λ w. countsUpto n l z salt n flows (book packets unknowns positions w) rs) (e ∙ ap (readyUpto flows unknowns) s);
+}
+
+-- a step that is not a count ends it
+stops : (more : Book → Records → Ended) (s : Step) (b : Book) (rs : Records) → OneOf (0 ∷ 1 ∷ []) (tagOf step.the-type s)
+    → endedAt s b rs ≡ afterCount more s b rs
+unfolding afterCount
+stops more Quiet b rs h = refl
+stops more (Damaged c) b rs h = refl
+stops more Next b rs h = absurd (⊎-elim (λ e. omega arith) (λ e. omega arith) h)
+
+pub going-done : {l : Layout} {z : Sizes} {salt n : ℕ} {flows : List ℕ} {m : ℕ} {b : Book} {rs : Records} {end : Ended}
+    → Going l z salt n flows m b rs end → m ≤ 0
+    → endedAt Quiet b rs ≡ end
+unfolding countsUpto
+going-done {m = zero} g h = g .goes
+going-done {m = suc m} g h = absurd (omega arith)
+
+module _ {l : Layout} {z : Sizes} {salt n : ℕ} {flows : List ℕ} {m : ℕ} {b : Book} {rs : Records} {end : Ended}
+    (g : Going l z salt n flows m b rs end)
+    (h : 0 < m) {s : Step} {b′ : Book} {rs′ : Records} (p : counted s b′ rs′ ≡ countOf l z salt n flows b rs) where
+  -- what follows the step
+  follows : afterCount (countsUpto (m - 1) l z salt n flows) s b′ rs′ ≡ end
+  unfolding countsUpto
+  follows =
+      let e : m ≡ suc (m - 1) = omega arith in
+      ap (λ (x : Counted). afterCount (countsUpto (m - 1) l z salt n flows) (x .answer) (x .cells) (x .list)) p ∙ (rw e at (g .goes))
+
+  pub going-on : s ≡ Next → Going l z salt n flows (m - 1) b′ rs′ end
+  unfolding afterCount
+  going-on e = record {
+    fits = subst (λ (x : Counted). Fits l z n flows (x .cells) (x .list)) (sym p) (fits-step l z salt n flows b rs (g .fits));
+    goes = (rw e at follows);
+  }
+
+  pub going-stop : {r : Stop} → OneOf (0 ∷ 1 ∷ []) (tagOf step.the-type s) → r ≡ stopAt s → ended r (b′ .packets) (b′ .unknowns)
+      (b′ .positions) rs′ ≡ end
+  going-stop k e =
+      ap (λ (x : Stop). ended x (b′ .packets) (b′ .unknowns) (b′ .positions) rs′) e
+      ∙ stops (countsUpto (m - 1) l z salt n flows) s b′ rs′ k ∙ follows

@@ -1,0 +1,73 @@
+-- Peeling, then counting: what the code's two calls leave is what the definition says.
+use mathlib.Core.Path.{_≡_, refl, ap, _∙_}
+use mathlib.Core.List.{List, [], _∷_}
+use mathlib.Core.Logic.{⊎-elim, _⊎_}
+use Prim.Native.Nat.{ℕ}
+use native.Mathlib.Omega.{arith}
+use types.Run.{OneOf}
+use denote.Enum.Declared.{tagOf}
+use lib.ListN.{length, replicate}
+use Rattle.layout.specs.declared.Layout.{Layout}
+use Rattle.layout.specs.declared.Sizes.{Sizes}
+use Rattle.layout.specs.Sizes.{tableCells}
+use Rattle.layout.proofs.Ranges.{table-high}
+use Rattle.list.specs.Records.{Records}
+use Rattle.peeling.specs.Table.{Tab, tab}
+use Rattle.peeling.specs.Peel.{Fits, Ended, ended, peelsOf}
+use Rattle.peeling.specs.declared.Stop.{Stop}
+use Rattle.peeling.specs.declared.Stop.the-variants.{Done, Full, Damaged}
+use Rattle.peeling.proofs.Stop as stop
+use Rattle.peeling.proofs.Loop.{ended-fits}
+use Rattle.counting.specs.Book.{book}
+use Rattle.counting.specs.Count as counts
+use Rattle.counting.specs.declared.Stop as counting
+use Rattle.settling.specs.Settle.{settled, stopAfter, afterCounts, thenCounts, settleOf}
+
+-- a 13 or 14 while peeling ends it
+others : (l : Layout) (z : Sizes) (salt : ℕ) (packets : List ℕ) (t : Tab) (rs : Records) (seen : List ℕ) (r : Stop) → OneOf (1 ∷ 2 ∷ [])
+    (tagOf stop.the-type r)
+    → settled r t packets rs seen ≡ thenCounts l z salt packets t rs seen r
+unfolding thenCounts
+others l z salt packets t rs seen (Done n) h = absurd (⊎-elim (λ e. omega arith) (λ e. omega arith) h)
+others l z salt packets t rs seen (Full n c) h = refl
+others l z salt packets t rs seen (Damaged n c) h = refl
+
+module _ (l : Layout) (z : Sizes) (salt n : ℕ) (t : Tab) (packets : List ℕ) (rs : Records)
+    (seen : List ℕ) {r : Stop} {t′ : Tab} {rs′ : Records} {seen′ : List ℕ}
+    (p : ended r t′ rs′ seen′ ≡ peelsOf l z salt n t rs seen) where
+  then-is : thenCounts l z salt packets t′ rs′ seen′ r ≡ settleOf l z salt n t packets rs seen
+  unfolding settleOf
+  then-is = ap (λ (x : Ended). thenCounts l z salt packets (x .table) (x .list) (x .seen) (x .answer)) p
+
+  pub settle-stopped : OneOf (1 ∷ 2 ∷ []) (tagOf stop.the-type r) → settled r t′ packets rs′ seen′ ≡ settleOf l z salt n t packets rs seen
+  settle-stopped h = others l z salt packets t′ rs′ seen′ r h ∙ then-is
+
+  module _ {m : ℕ} (e : r ≡ Done m) where
+    pub settle-counted : {a : counting.Stop} {q : Stop} {packets′ unknowns positions : List ℕ} {rs″ : Records}
+        → counts.ended a packets′ unknowns positions rs″ ≡ counts.countsOf l z salt m (t′ .flows) packets (t′ .unknowns) (t′ .positions) rs′
+        → q ≡ stopAfter m a
+        → settled q (tab (t′ .xors) (t′ .flows) unknowns positions (t′ .marks)) packets′ rs″ seen′ ≡ settleOf l z salt n t packets rs seen
+    unfolding thenCounts afterCounts
+    settle-counted {packets′ = packets′} {unknowns} {positions} {rs″} g h =
+        ap (λ (x : Stop). settled x (tab (t′ .xors) (t′ .flows) unknowns positions (t′ .marks)) packets′ rs″ seen′) h
+        ∙ ap (afterCounts m t′ seen′) g ∙ (rw e at then-is)
+
+    -- all fits for counting
+    pub count-fits : Fits l z salt n t rs seen → length packets ≡ tableCells l z
+        → counts.Fits l z m (t′ .flows) (book packets (t′ .unknowns) (t′ .positions) (replicate 24 0)) rs′
+    count-fits f h =
+        let g : Fits l z salt m t′ rs′ seen′ = (rw e at (ended-fits l z salt n t rs seen f p)) in
+        record {
+          lays = g .table .lays;
+          ranged = g .table .ranged;
+          room = g .room;
+          listed = g .listed;
+          cells = record {
+            few = table-high l z (g .table .lays) (g .table .ranged);
+            flows-fit = g .table .flows-fit;
+            packets-fit = h;
+            unknowns-fit = g .table .unknowns-fit;
+            positions-fit = g .table .positions-fit;
+            ready-fit = refl;
+          };
+        }

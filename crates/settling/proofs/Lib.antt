@@ -1,0 +1,3 @@
+-- Laws of settling.
+pub mod Laws
+pub mod Outcomes

@@ -1,0 +1,4 @@
+-- Laws of the test of 8.
+pub mod Notes
+pub mod Answers
+pub mod Outcomes
