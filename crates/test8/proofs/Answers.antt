@@ -1,24 +1,24 @@
 -- What passing the test says, clause by clause; a clause that fails refuses; and the code's own ways to each clause.
-use mathlib.Core.Path.{_≡_, refl, sym, _∙_}
+use mathlib.Core.Path.{_≡_, refl, sym, ap, _∙_}
 use mathlib.Core.Bool.{Bool, true, false, not, cond, _&&_}
 use mathlib.Core.List.{List}
 use mathlib.Core.Logic.{inl, inr}
-use Prim.Native.Nat.{ℕ, _+_, _-_, _*_, _^_, _≤_, _<_}
+use Prim.Native.Nat.{ℕ, _+_, _-_, _*_, _≤_, _<_}
 use native.Mathlib.Omega.{arith}
 use borrow.Author.Tests.{lt-ltb, le-ltb}
 use lib.Dec.{eqb, leb}
 use lib.ListN.{length, getD}
 use Rattle.laws.specs.Upto.{anyUpto, allUpto, numberUpto}
+use Rattle.laws.proofs.Upto.{all-same}
 use Rattle.laws.proofs.Bools.{split, and-l, and-r, not-t}
 use Rattle.layout.specs.declared.Layout.{Layout}
 use Rattle.layout.specs.declared.Sizes.{Sizes}
-use Rattle.layout.specs.Sizes.{Lays, Ranged, tableCells}
+use Rattle.layout.specs.Sizes.{tableCells}
 use Rattle.list.specs.Records.{Records, isKnown, isHanded}
 use Rattle.peeling.specs.Table.{Tab}
-use Rattle.test8.specs.Given.{flagSet, oneMore, mixedIn, seenUpto}
+use Rattle.test8.specs.Given.{flagSet, seenUpto}
 use Rattle.test8.specs.Test8.{overListed, keysRepeat, zeroCount, handedIn, peeledIn, openIn, numbersIn, marksRight, restClear}
 use Rattle.test8.specs.Test8.{unknownsGiven, positionsGiven, notesRight, isSession}
-use Rattle.test8.proofs.Notes.{wantedBy, unknowns-right, positions-right}
 use Rattle.laws.proofs.Lowest.{number-rest}
 
 -- no reason for 8 is there
@@ -107,14 +107,10 @@ pub seen-in : (l : Layout) (z : Sizes) (salt n : ℕ)
     → s ≡ seenUpto l z salt (cond (overListed l z n) 0 n) keys seen
 seen-in l z salt n keys seen e f = rw e f
 
-module _ (l : Layout) (z : Sizes) (lays : Lays l) (r : Ranged z) (salt n : ℕ) (rs : Records)
-    (numbers : List ℕ) {cells : ℕ} {wanted : List ℕ} {b : Bool} where
-  pub unknowns-told : n < 2 ^ 16 → cells ≡ tableCells l z → wanted ≡ wantedBy l z lays r salt n rs oneMore
-      → b ≡ allUpto cells (λ c. eqb (getD numbers c 0) (getD wanted c 0))
-      → b ≡ allUpto (tableCells l z) (λ c. eqb (getD numbers c 0) (unknownsGiven l z salt n rs c))
-  unknowns-told h e f g = g ∙ rw (e, f) (unknowns-right l z lays r salt n rs numbers h)
-
-  pub positions-told : cells ≡ tableCells l z → wanted ≡ wantedBy l z lays r salt n rs mixedIn
-      → b ≡ allUpto cells (λ c. eqb (getD numbers c 0) (getD wanted c 0))
-      → b ≡ allUpto (tableCells l z) (λ c. eqb (getD numbers c 0) (positionsGiven l z salt n rs c))
-  positions-told e f g = g ∙ rw (e, f) (positions-right l z lays r salt n rs numbers)
+-- numbers compared with wanted ones, which are what is given
+pub compared : (numbers : List ℕ) (given : ℕ → ℕ) {n cells : ℕ} {wanted right : List ℕ} {b : Bool} → cells ≡ n → wanted ≡ right
+    → ((c : ℕ) → getD right c 0 ≡ given c) → b ≡ allUpto cells (λ c. eqb (getD numbers c 0) (getD wanted c 0))
+    → b ≡ allUpto n (λ c. eqb (getD numbers c 0) (given c))
+compared numbers given {n = n} {right = right} e f h g =
+    g ∙ rw (e, f) (all-same n (λ c. eqb (getD numbers c 0) (getD right c 0)) (λ c. eqb (getD numbers c 0) (given c))
+    (λ c p. ap (eqb (getD numbers c 0)) (h c)))

@@ -7,12 +7,11 @@ use Prim.Native.Nat.{ℕ, zero, suc, _+_, _*_, _^_, _/_, _≤_, _<_}
 use native.Mathlib.Decide.{ℕ-discrete}
 use native.Mathlib.Nat.{div-mul-le-self, lt-div-mul-add}
 use native.Mathlib.Omega.{arith}
-use lib.Dec.{eqb}
 use lib.ListN.{length, getD, set, replicate, length-replicate}
-use Rattle.laws.specs.Upto.{allUpto, eachUpto, listUpto}
+use Rattle.laws.specs.Upto.{eachUpto, listUpto}
 use Rattle.laws.proofs.Bools.{split}
 use Rattle.laws.proofs.Lists.{zero-at}
-use Rattle.laws.proofs.Upto.{any-more, each-more, each-same, list-at, all-same, length-renew, renew-at}
+use Rattle.laws.proofs.Upto.{any-more, each-more, each-same, list-at, length-renew, renew-at}
 use Rattle.layout.specs.declared.Layout.{Layout}
 use Rattle.layout.specs.declared.Sizes.{Sizes}
 use Rattle.layout.specs.Sizes.{Lays, Ranged, partCells, tableCells}
@@ -98,40 +97,22 @@ module _ (l : Layout) (z : Sizes) (lays : Lays l) (r : Ranged z) (salt : ℕ) wh
         ]
 
   -- from zeros, the two numbers are those that cells and list give
-  module _ (n : ℕ) (rs : Records) (c : ℕ) where
-    unknowns-are : n < 2 ^ 16 → getD (noted l z salt oneMore n (rs .keys) (rs .flags)
-        (replicate 1536 0)) c 0 ≡ unknownsGiven l z salt n rs c
+  module _ (n : ℕ) (rs : Records) where
+    zeros-wide : tableCells l z ≤ length {A = ℕ} (replicate 1536 0)
+    zeros-wide = omega (arith, length-replicate {A = ℕ} 1536 0, table-high l z lays r)
+
+    pub unknowns-are : n < 2 ^ 16 → (c : ℕ)
+        → getD (noted l z salt oneMore n (rs .keys) (rs .flags) (replicate 1536 0)) c 0 ≡ unknownsGiven l z salt n rs c
     unfolding unknownsGiven
-    unknowns-are h =
-        noted-at oneMore (rs .keys) (rs .flags) (rs .counts) n (replicate 1536 0)
-        (omega (arith, length-replicate {A = ℕ} 1536 0, table-high l z lays r)) c
+    unknowns-are h c =
+        noted-at oneMore (rs .keys) (rs .flags) (rs .counts) n (replicate 1536 0) zeros-wide c
         ∙ rw (zero-at 1536 c) (count-wraps 16 n (unknownIn l z salt rs c) h)
 
-    positions-are : getD (noted l z salt mixedIn n (rs .keys) (rs .flags) (replicate 1536 0)) c 0 ≡ positionsGiven l z salt n rs c
+    pub positions-are : (c : ℕ)
+        → getD (noted l z salt mixedIn n (rs .keys) (rs .flags) (replicate 1536 0)) c 0 ≡ positionsGiven l z salt n rs c
     unfolding positionsGiven
-    positions-are =
-        noted-at mixedIn (rs .keys) (rs .flags) (rs .counts) n (replicate 1536 0)
-        (omega (arith, length-replicate {A = ℕ} 1536 0, table-high l z lays r)) c
-        ∙ rw (zero-at 1536 c)
-
-  -- so comparing with them is the test of the per-cell numbers
-  module _ (n : ℕ) (rs : Records) where
-    abbrev pub wantedBy : (ℕ → ℕ → ℕ) → List ℕ
-    wantedBy new = noted l z salt new n (rs .keys) (rs .flags) (replicate 1536 0)
-
-    pub unknowns-right : (numbers : List ℕ) → n < 2 ^ 16
-        → allUpto (tableCells l z) (λ c. eqb (getD numbers c 0) (getD (wantedBy oneMore) c 0))
-        ≡ allUpto (tableCells l z) (λ c. eqb (getD numbers c 0) (unknownsGiven l z salt n rs c))
-    unknowns-right numbers h =
-        all-same (tableCells l z) (λ c. eqb (getD numbers c 0) (getD (wantedBy oneMore) c 0))
-        (λ c. eqb (getD numbers c 0) (unknownsGiven l z salt n rs c)) (λ c p. ap (eqb (getD numbers c 0)) (unknowns-are n rs c h))
-
-    pub positions-right : (numbers : List ℕ)
-        → allUpto (tableCells l z) (λ c. eqb (getD numbers c 0) (getD (wantedBy mixedIn) c 0))
-        ≡ allUpto (tableCells l z) (λ c. eqb (getD numbers c 0) (positionsGiven l z salt n rs c))
-    positions-right numbers =
-        all-same (tableCells l z) (λ c. eqb (getD numbers c 0) (getD (wantedBy mixedIn) c 0))
-        (λ c. eqb (getD numbers c 0) (positionsGiven l z salt n rs c)) (λ c p. ap (eqb (getD numbers c 0)) (positions-are n rs c))
+    positions-are c =
+        noted-at mixedIn (rs .keys) (rs .flags) (rs .counts) n (replicate 1536 0) zeros-wide c ∙ rw (zero-at 1536 c)
 
   -- ---- the part of a cell
   pub part-of : (c : ℕ) {s : ℕ} → s ≡ partCells l z → c < tableCells l z → InPart l z (c / s) c

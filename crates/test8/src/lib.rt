@@ -1,9 +1,9 @@
 // The test of 8: whether lent memory is a session, all of it worked out anew from cells and list, in one pass over each.
 // It rests on list and marks, on hash for a flow's cells, and on peeling for pure cells and for the bitmap of listed flows.
 ghost use mathlib.Core.Path.{_≡_};
-ghost use mathlib.Core.Bool.{not, cond, _&&_, _||_};
+ghost use mathlib.Core.Bool.{cond, _&&_, _||_};
 ghost use Prim.Native.Nat.{_+_, _-_, _*_, _<_, _≤_};
-ghost use lib.Dec.{eqb, ltb, leb};
+ghost use lib.Dec.{eqb, leb};
 ghost use lib.ListN.{length, getD};
 ghost use Rattle.laws.specs.Upto.{anyUpto, allUpto, numberUpto};
 ghost use Rattle.layout.specs.Sizes.{Lays, Ranged, tableCells};
@@ -14,8 +14,6 @@ ghost use Rattle.test8.specs.Given.{flagSet, renewed, oneMore, mixedIn, 
 ghost use Rattle.test8.specs.Test8.{
   overListed,
   keysRepeat,
-  zeroCount,
-  numbersIn,
   openIn,
   agrees,
   marksRight,

@@ -13,10 +13,10 @@ use Rattle.list.specs.Records.{records}
 use Rattle.marks.specs.Marks.{wordsFor}
 use Rattle.peeling.specs.Table.{tab}
 use Rattle.test8.specs.Given.{oneMore, mixedIn, seenUpto}
-use Rattle.test8.specs.Test8.{restClear}
-use Rattle.test8.proofs.Notes.{length-noted}
+use Rattle.test8.specs.Test8.{restClear, unknownsGiven, positionsGiven}
+use Rattle.test8.proofs.Notes.{length-noted, unknowns-are, positions-are}
 use Rattle.test8.proofs.Answers.{refused, decided, unknowns-wrong, over-yes, over-no}
-use Rattle.test8.proofs.Answers.{zero-is, numbers-is, seen-in, unknowns-told, positions-told}
+use Rattle.test8.proofs.Answers.{zero-is, numbers-is, seen-in, compared}
 use Rattle.test8.proofs.is_session_seen.Statement.{statement}
 use Rattle.test8.proofs.is_session_seen.Tie as tie
 
@@ -63,7 +63,7 @@ note-list-requires c κs =
     )
 
 same-length : tie.Need-same-length
-same-length c = search needs
+same-length c = c .before .before .before .before .before .note-list .kept .1 .1 .1 .1 .1 .1 .0
 
 returns-2 : tie.Need-returns-2
 returns-2 c =
@@ -79,10 +79,14 @@ returns-2 c =
     )
 
 any-zero-count-requires : tie.Need-any-zero-count-requires
-any-zero-count-requires c κs = search needs
+any-zero-count-requires c κs =
+    let i = c .before .before .before .before .before .before .before .before .before in
+    let g = i .before in
+    let s = g .before .before .before .before .before .before .before .before .before .before in
+    (omega (arith, s .pre .1 .counts-fit, i .if1 .left, g .table-cells .ensures), omega (arith, s .pre .1 .flags-fit, i .if1 .left, g .table-cells .ensures))
 
 same-length-2 : tie.Need-same-length-2
-same-length-2 c = search needs
+same-length-2 c = c .before .before .before .before .before .before .before .note-list .kept .1 .1 .1 .1 .1 .1 .0
 
 returns-3 : tie.Need-returns-3
 returns-3 c =
@@ -112,7 +116,7 @@ numbers-in-requires c κs =
     )
 
 same-length-3 : tie.Need-same-length-3
-same-length-3 c = search needs
+same-length-3 c = c .before .before .before .before .before .before .before .before .before .note-list .kept .1 .1 .1 .1 .1 .1 .0
 
 returns-4 : tie.Need-returns-4
 returns-4 c =
@@ -129,10 +133,14 @@ returns-4 c =
     )
 
 marks-right-requires : tie.Need-marks-right-requires
-marks-right-requires c κs = search needs
+marks-right-requires c κs =
+    let i = c .before .before .before .before .before .before .before .before .before .before .before .before .before in
+    let g = i .before in
+    let s = g .before .before .before .before .before .before .before .before .before .before in
+    let p = s .pre .0 in (p .lays, p .ranged, p .xors-fit, p .flows-fit, p .marks-fit)
 
 same-length-4 : tie.Need-same-length-4
-same-length-4 c = search needs
+same-length-4 c = c .before .before .before .before .before .before .before .before .before .before .before .note-list .kept .1 .1 .1 .1 .1 .1 .0
 
 returns-5 : tie.Need-returns-5
 returns-5 c =
@@ -159,7 +167,9 @@ rest-clear-requires c κs =
     )
 
 same-length-5 : tie.Need-same-length-5
-same-length-5 c = search needs
+same-length-5 c =
+    let h = c .before .before .before .before .before .before .before .before in
+    h .before .before .before .before .before .note-list .kept .1 .1 .1 .1 .1 .1 .0
 
 returns-6 : tie.Need-returns-6
 returns-6 c =
@@ -196,7 +206,9 @@ same-numbers-requires c κs =
     )
 
 same-length-6 : tie.Need-same-length-6
-same-length-6 c = search needs
+same-length-6 c =
+    let h = c .before .before .before .before .before .before .before .before in
+    h .before .before .before .before .before .before .before .before .note-list .kept .1 .1 .1 .1 .1 .1 .0
 
 returns-7 : tie.Need-returns-7
 returns-7 c =
@@ -216,8 +228,8 @@ returns-7 c =
     ) in (
       refused (a .l) (a .z) (a .salt) (a .n) t rs (λ p. clash (p .notes-right)
           (unknowns-wrong (a .l) (a .z) (a .salt) (a .n) t rs
-          (failed (unknowns-told (a .l) (a .z) (s .pre .0 .lays) (s .pre .0 .ranged) (a .salt) (a .n) rs (a .unknowns .now) few
-          (g .table-cells .ensures) (f .note-list .ensures .2) (c .before .same-numbers .ensures)) (c .if7 .taken)))),
+          (failed (compared (a .unknowns .now) (unknownsGiven (a .l) (a .z) (a .salt) (a .n) rs) (g .table-cells .ensures) (f .note-list .ensures .2)
+          (unknowns-are (a .l) (a .z) (s .pre .0 .lays) (s .pre .0 .ranged) (a .salt) (a .n) rs few) (c .before .same-numbers .ensures)) (c .if7 .taken)))),
       seen-in (a .l) (a .z) (a .salt) (a .n) (a .keys .now) (a .seen .now) not-over (f .note-list .ensures .1),
     )
 
@@ -242,7 +254,9 @@ same-numbers-requires-2 c κs =
     )
 
 same-length-7 : tie.Need-same-length-7
-same-length-7 c = search needs
+same-length-7 c =
+    let h = c .before .before .before .before .before .before .before .before in
+    h .before .before .before .before .before .before .before .before .before .before .note-list .kept .1 .1 .1 .1 .1 .1 .0
 
 returns-8 : tie.Need-returns-8
 returns-8 c =
@@ -273,11 +287,11 @@ returns-8 c =
           (c .before .before .before .before .before .before .before .if5 .left))
           (held (c .before .before .before .before .before .before .rest-clear .ensures ∙ ap (λ (x : ℕ). restClear x (a .marks .now))
           (g .table-cells .ensures)) (c .before .before .before .before .before .if6 .left))
-          (held (unknowns-told (a .l) (a .z) (s .pre .0 .lays) (s .pre .0 .ranged) (a .salt) (a .n) rs (a .unknowns .now) few
-          (g .table-cells .ensures) (f .note-list .ensures .2) (c .before .before .before .same-numbers .ensures))
+          (held (compared (a .unknowns .now) (unknownsGiven (a .l) (a .z) (a .salt) (a .n) rs) (g .table-cells .ensures) (f .note-list .ensures .2)
+          (unknowns-are (a .l) (a .z) (s .pre .0 .lays) (s .pre .0 .ranged) (a .salt) (a .n) rs few) (c .before .before .before .same-numbers .ensures))
           (c .before .before .if7 .left))
-          (positions-told (a .l) (a .z) (s .pre .0 .lays) (s .pre .0 .ranged) (a .salt) (a .n) rs (a .positions .now)
-          (g .table-cells .ensures) (f .note-list .ensures .3) (c .same-numbers2 .ensures)),
+          (compared (a .positions .now) (positionsGiven (a .l) (a .z) (a .salt) (a .n) rs) (g .table-cells .ensures) (f .note-list .ensures .3)
+          (positions-are (a .l) (a .z) (s .pre .0 .lays) (s .pre .0 .ranged) (a .salt) (a .n) rs) (c .same-numbers2 .ensures)),
       seen-in (a .l) (a .z) (a .salt) (a .n) (a .keys .now) (a .seen .now) not-over (f .note-list .ensures .1),
     )
 
