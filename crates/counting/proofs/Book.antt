@@ -8,15 +8,14 @@ use lib.Bits.{bitXor}
 use lib.Dec.{ltb}
 use lib.ListN.{length, getD, set, length-set, replicate}
 use Rattle.laws.specs.Upto.{listUpto}
-use Rattle.laws.proofs.Upto.{each-more, each-keeps, list-at, any-at, steps-at}
+use Rattle.laws.proofs.Upto.{each-more, each-keeps, any-at, steps-at}
 use Rattle.layout.specs.declared.Layout.{Layout}
 use Rattle.layout.specs.declared.Sizes.{Sizes}
 use Rattle.layout.specs.Sizes.{Lays, Ranged, tableCells}
 use Rattle.hash.specs.Places.{cellOf}
-use Rattle.hash.proofs.Apart.{cell-within}
 use Rattle.marks.specs.Marks.{putMark}
 use Rattle.marks.proofs.Laws.{length-put}
-use Rattle.counting.specs.Book.{Book, book, Spans, Within, readyAt, withReady, readyUpto, anyLess, exceeds, toldAt, toldEach, toldOut}
+use Rattle.counting.specs.Book.{Book, book, Spans, readyAt, withReady, readyUpto, anyLess, exceeds, toldAt, toldEach, toldOut}
 
 -- ---- ready cells
 pub length-ready : (flows unknowns : List ℕ) (c : ℕ) (ready : List ℕ) → length (withReady flows unknowns c ready) ≡ length ready
@@ -38,13 +37,6 @@ unfolding readyUpto
 ready-turn flows unknowns c e f = f ∙ ap (withReady flows unknowns c) e ∙ sym (each-more c (withReady flows unknowns) (replicate 24 0))
 
 -- ---- a flow's cells
--- the first k places of a key are cells
-pub places-within : (l : Layout) (z : Sizes) (lays : Lays l) (r : Ranged z) (salt : ℕ) (key : List ℕ) {at : List ℕ} → at ≡ listUpto 4
-    (cellOf l z salt key)
-    → Within at (z .k) (tableCells l z)
-places-within l z lays r salt key e i h =
-    rw (e, list-at 4 (cellOf l z salt key) 0 i (omega (arith, r .k-high))) (cell-within l z lays r salt key i h)
-
 pub less-is : (l : Layout) (z : Sizes) (r : Ranged z) (salt : ℕ) (key packets : List ℕ) (v : ℕ) {at : List ℕ} → at ≡ listUpto 4 (cellOf l z salt key)
     → anyLess at (z .k) packets v ≡ exceeds l z salt packets v key
 unfolding anyLess exceeds

@@ -2,3 +2,4 @@
 pub mod Book
 pub mod Answers
 pub mod Loop
+pub mod Outcomes

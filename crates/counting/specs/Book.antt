@@ -2,7 +2,7 @@
 use mathlib.Core.Path.{_≡_}
 use mathlib.Core.Bool.{Bool, true, cond, _&&_}
 use mathlib.Core.List.{List}
-use Prim.Native.Nat.{ℕ, _-_, _≤_, _<_}
+use Prim.Native.Nat.{ℕ, _-_, _≤_}
 use lib.Bits.{bitXor}
 use lib.Dec.{eqb, ltb}
 use lib.ListN.{length, getD, set, replicate}
@@ -30,10 +30,6 @@ pub record Spans (n : ℕ) (flows : List ℕ) (b : Book) : Type 0 where
   pub unknowns-fit : length (b .unknowns) ≡ n
   pub positions-fit : length (b .positions) ≡ n
   pub ready-fit : length (b .ready) ≡ 24
-
--- the first k places are below n
-abbrev pub Within : List ℕ → ℕ → ℕ → Type 0
-Within at k n = (i : ℕ) → i < k → getD at i 0 < n
 
 -- 01 'A session': "A cell is ready when FlowCount is 0 and that number is 1"
 unfoldable pub readyAt : List ℕ → List ℕ → ℕ → Bool

@@ -3,11 +3,11 @@
 ghost use mathlib.Core.Path.{_≡_};
 ghost use Prim.Native.Nat.{_+_, _-_, _*_, _<_, _≤_};
 ghost use lib.ListN.{length, getD, replicate};
+ghost use Rattle.hash.specs.Places.{Within};
 ghost use Rattle.list.specs.Records.{records};
 ghost use Rattle.counting.specs.Book.{
   book,
   Spans,
-  Within,
   readyAt,
   withReady,
   readyUpto,

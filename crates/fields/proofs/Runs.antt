@@ -4,10 +4,11 @@ use mathlib.Core.Bool.{true}
 use mathlib.Core.List.{List, [], _∷_, _++_, append-nil}
 use Prim.Native.Nat.{ℕ, zero, suc, _+_, _<_, _≤_}
 use native.Mathlib.Nat.{le-of-suc-le-suc}
+use native.Mathlib.Numerals.{add-one}
 use native.Mathlib.Omega.{arith}
 use lib.Bits.{bitXor}
 use lib.Dec.{eqb}
-use lib.ListN.{length, getD, set, take, drop, replicate, length-replicate, getD-replicate}
+use lib.ListN.{length, getD, set, take, drop, replicate, length-set, length-replicate, getD-replicate, drop-of-length-le}
 use lib.Seq.{ext-getD, take-all}
 use borrow.Author.Tests.{eqb-true}
 use Rattle.laws.specs.Xor.{xorBytes}
@@ -32,7 +33,7 @@ xor-turn (suc k) (x ∷ s) (y ∷ key) p q = ap (bitXor x y ∷_) (xor-turn k s 
 
 pub xor-whole : (k : ℕ) (s key : List ℕ) → length s ≤ k → length key ≤ k → xorUpto k s key ≡ xorBytes s key
 unfolding xorUpto
-xor-whole k s key p q = rw (take-all k s p, take-all k key q, lib.ListN.drop-of-length-le s p) (append-nil (xorBytes s key))
+xor-whole k s key p q = rw (take-all k s p, take-all k key q, drop-of-length-le s p) (append-nil (xorBytes s key))
 
 -- the first k bytes copied
 pub copy-turn : (k : ℕ) (s bytes : List ℕ) → k < length s → k < length bytes
@@ -46,6 +47,19 @@ pub clear-turn : (k : ℕ) (s : List ℕ) → k < length s → set (replicate k 
 clear-turn k [] p = absurd (omega arith)
 clear-turn zero (x ∷ s) p = refl
 clear-turn (suc k) (x ∷ s) p = ap (0 ∷_) (clear-turn k s (le-of-suc-le-suc p))
+
+-- clearing, of elements of any width: after i turns the first i are 0
+abbrev pub Cleared : List ℕ → List ℕ → ℕ → Type 0
+Cleared s₀ s i = (length s ≡ length s₀) × (i ≤ length s₀) × (s ≡ replicate i 0 ++ drop i s₀)
+
+pub cleared-turn : (s₀ : List ℕ) {s : List ℕ} {i : ℕ} → i < length s₀ → Cleared s₀ s i → Cleared s₀ (set s i 0) (i + 1)
+cleared-turn s₀ {s} {i} h c =
+    (length-set s i 0 ∙ c .0, omega arith, rw (add-one, c .2) (clear-turn i s₀ h))
+
+pub cleared-all : (s₀ : List ℕ) {s : List ℕ} {i : ℕ} → length s₀ ≤ i → Cleared s₀ s i → s ≡ replicate (length s₀) 0
+cleared-all s₀ {s} {i} h c =
+    let e : i ≡ length s₀ = omega (arith, c .1) in
+    c .2 ∙ rw (drop-of-length-le s₀ h, e) (append-nil (replicate (length s₀) 0))
 
 -- zero bytes are zeros
 pub zero-is : (s : List ℕ) → allZero s ≡ true → s ≡ replicate (length s) 0

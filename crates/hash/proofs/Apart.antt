@@ -17,7 +17,7 @@ use Rattle.layout.specs.declared.Sizes.{Sizes}
 use Rattle.layout.specs.Sizes.{Lays, Ranged, partCells, tableCells, filterBits}
 use Rattle.layout.proofs.Ranges.{part-low, part-within, filter-low}
 use Rattle.hash.specs.Fnv.{hashOf, place}
-use Rattle.hash.specs.Places.{cellOf, bitOf, bitsOf, hasCell, cellRole, filterRole}
+use Rattle.hash.specs.Places.{cellOf, bitOf, bitsOf, hasCell, cellRole, filterRole, Within}
 use Rattle.hash.proofs.Chain.{hash-lt, place-lt}
 
 module _ (l : Layout) (z : Sizes) (lays : Lays l) (r : Ranged z) (salt : ℕ) (key : List ℕ) where
@@ -90,6 +90,13 @@ cells-four l z salt key {s = s} e hs q₀ q₁ q₂ q₃ =
     (rw (← e, ← h .1, ← q₁, one-mul))
     (rw (← e, ← h .2, ← q₂))
     (rw (← e, ← h .3, ← q₃))
+
+-- the first k places of a key, as the code keeps them, are cells
+pub places-within : (l : Layout) (z : Sizes) (lays : Lays l) (r : Ranged z) (salt : ℕ) (key : List ℕ) {at : List ℕ} → at ≡ listUpto 4
+    (cellOf l z salt key)
+    → Within at (z .k) (tableCells l z)
+places-within l z lays r salt key e i h =
+    rw (e, list-at 4 (cellOf l z salt key) 0 i (omega (arith, r .k-high))) (cell-within l z lays r salt key i h)
 
 pub bits-four : (z : Sizes) (salt : ℕ) (key : List ℕ) (first : ℕ) {n a b c d p₀ p₁ p₂ p₃ : ℕ} → n ≡ filterBits z
     → (a ∷ b ∷ c ∷ d ∷ []) ≡ listUpto 4 (λ i. hashOf salt filterRole (first + i) key)

@@ -1,9 +1,9 @@
 -- A flow's cells and filter bits: 01 'Keys and hashing'.
 use mathlib.Core.Bool.{Bool, cond}
 use mathlib.Core.List.{List, _++_}
-use Prim.Native.Nat.{ℕ, _+_, _*_}
+use Prim.Native.Nat.{ℕ, _+_, _*_, _<_}
 use lib.Dec.{leb, eqb}
-use lib.ListN.{replicate}
+use lib.ListN.{getD, replicate}
 use Rattle.laws.specs.Upto.{anyUpto, listUpto}
 use Rattle.layout.specs.declared.Layout.{Layout}
 use Rattle.layout.specs.declared.Sizes.{Sizes}
@@ -28,6 +28,10 @@ bitOf z salt key i = place (hashOf salt filterRole i key) (filterBits z)
 -- 01 'Keys and hashing': "a flow's k cells": whether the key has the cell c
 unfoldable pub hasCell : Layout → Sizes → ℕ → List ℕ → ℕ → Bool
 hasCell l z salt key c = anyUpto (z .k) (λ i. eqb (cellOf l z salt key i) c)
+
+-- the first k places are below n
+abbrev pub Within : List ℕ → ℕ → ℕ → Type 0
+Within at k n = (i : ℕ) → i < k → getD at i 0 < n
 
 -- the filter bits as the code keeps them: eight places, of which the first kf count
 unfoldable pub bitsOf : Sizes → ℕ → List ℕ → List ℕ

@@ -355,7 +355,7 @@ fn read_later(l: Layout, z: Sizes, salt: u32, slot: u32, image: &[u8]) -> Readin
 }
 
 // Reads an image of any layout.
-fn read_in(l: Layout, image: &[u8], slot: u32) -> Reading
+pub fn read_in(l: Layout, image: &[u8], slot: u32) -> Reading
     requires { ⌜ Lays l ⌝ }
     ensures { λ r. ⌜ r ≡ readOf l (now (image .entry)) slot ⌝ }
 {

@@ -8,10 +8,10 @@ use native.Mathlib.Decide.{ℕ-discrete}
 use native.Mathlib.Numerals.{add-one}
 use native.Mathlib.Omega.{arith}
 use lib.ListN.{length, getD, take, drop, length-append, length-drop}
-use lib.Seq.{take-at, drop-at, drop-drop, take-add, take-all, drop-append-le, take-append-le}
+use lib.Seq.{sets, take-at, drop-at, drop-drop, take-add, take-all, drop-append-le, take-append-le}
 use Rattle.laws.specs.Upto.{allUpto, joinUpto}
 use Rattle.laws.proofs.Bools.{and-t}
-use Rattle.laws.proofs.Lists.{part-at, length-part}
+use Rattle.laws.proofs.Lists.{part-at, length-part, lent-sets}
 
 pub row-next : (n w : ℕ) → suc n * w ≡ n * w + w
 row-next n w = rw (← add-one n) (add-mul n 1 w ∙ ap (λ x. n * w + x) (one-mul w))
@@ -81,6 +81,13 @@ module _ {A : Type 0} where
         next,
       )
       (sym (append-assoc (joinUpto n f) (f n) (drop (n * w + w) s)))
+
+  -- one row more, stored over what stood there
+  pub row-put : (n w : ℕ) (f : ℕ → List A) (s : List A) → length (joinUpto n f) ≡ n * w → length (f n) ≡ w → n * w + w ≤ length s
+      → sets (joinUpto n f ++ drop (n * w) s) (n * w) (f n) ≡ joinUpto (n + 1) f ++ drop ((n + 1) * w) s
+  row-put n w f s e k h =
+      sym (lent-sets (f n) (joinUpto n f ++ drop (n * w) s) (n * w) w k (rw (length-append, e, length-drop) (omega arith)))
+      ∙ join-turn n w f s e
 
   -- element j of part i
   pub join-at : (n w : ℕ) (f : ℕ → List A) (d : A) → ((i : ℕ) → i < n → length (f i) ≡ w) → (i j : ℕ) → i < n → j < w

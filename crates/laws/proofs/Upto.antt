@@ -1,14 +1,14 @@
 -- What is asked, done or listed for each index below n.
 use mathlib.Core.Path.{_≡_, refl, sym, ap, _∙_, subst}
 use mathlib.Core.Bool.{Bool, true, false, _&&_, _||_, cond}
-use mathlib.Core.List.{[], _∷_, List}
+use mathlib.Core.List.{[], _∷_, _++_, List}
 use mathlib.Core.Logic.{inl, inr}
 use Prim.Native.Nat.{ℕ, zero, suc, _+_, _<_, _≤_}
 use native.Mathlib.Decide.{ℕ-discrete}
 use native.Mathlib.Numerals.{add-one}
 use native.Mathlib.Omega.{arith}
-use lib.ListN.{length, getD, length-append, List·getD-append, set, length-set}
-use lib.Seq.{getD-at, getD-set-same, getD-set-other}
+use lib.ListN.{length, getD, drop, length-append, List·getD-append, set, length-set}
+use lib.Seq.{getD-at, getD-set-same, getD-set-other, set-at, append-snoc, drop-cons}
 use Rattle.laws.specs.Upto.{anyUpto, allUpto, eachUpto, listUpto}
 use Rattle.laws.proofs.Bools.{split, clash, and-l, and-r, and-i, or-e, or-l, or-r, or-f}
 use borrow.Author.Tests.{eqb-true, eq-eqb, ne-eqb}
@@ -113,6 +113,14 @@ list-four f p q r s = rw (p, q, r, s)
 pub four-are : {A : Type 0} (f : ℕ → A) {a b c d : A} → (a ∷ b ∷ c ∷ d ∷ []) ≡ listUpto 4 f → (a ≡ f 0) × (b ≡ f 1) × (c ≡ f 2) × (d ≡ f 3)
 unfolding listUpto
 four-are f e = (cc, cc, cc, cc)
+
+-- one element more, stored over what stood there
+pub element-put : {A : Type 0} (n : ℕ) (f : ℕ → A) (s : List A) → n < length s
+    → set (listUpto n f ++ drop n s) n (f n) ≡ listUpto (n + 1) f ++ drop (n + 1) s
+unfolding listUpto
+element-put n f s h =
+    rw (add-one, drop-cons s n (f n) h)
+    (set-at (listUpto n f) (getD s n (f n)) (drop (suc n) s) (f n) n (length-list n f) ∙ sym (append-snoc (listUpto n f) (f n) (drop (suc n) s)))
 
 pub list-same : {A : Type 0} (n : ℕ) (f g : ℕ → A) → ((i : ℕ) → i < n → f i ≡ g i) → listUpto n f ≡ listUpto n g
 unfolding listUpto

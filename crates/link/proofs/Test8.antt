@@ -160,7 +160,7 @@ module _ (l : Layout) (z : Sizes) (salt n : ℕ) (t : Tab) (packets : List ℕ) 
   unfolding peeledIn recordAt
   peeled-is = where-number (λ r. not (r .handed)) (recordAt l rs) n
 
-  open-is : openCells size (session .cells) ≡ openIn size (t .flows)
+  pub open-is : openCells size (session .cells) ≡ openIn size (t .flows)
   unfolding openCells openIn cellsOf below
   open-is = number-same size (λ c. ltb 0 (session .cells c .flowCount)) (λ c. ltb 0 (getD (t .flows) c 0)) (λ c q. rw (lt-ltb c size q))
 

@@ -8,22 +8,23 @@ use native.Mathlib.Omega.{arith}
 use borrow.Author.Tests.{le-ltb, lt-ltb, le-leb, lt-leb, leb-false, ltb-true}
 use lib.Dec.{leb, ltb}
 use lib.ListN.{length}
+use Rattle.hash.proofs.Apart.{places-within}
 use Rattle.laws.specs.Upto.{listUpto}
 use Rattle.laws.proofs.Bools.{split}
 use Rattle.layout.specs.declared.Layout.{Layout}
 use Rattle.layout.specs.declared.Sizes.{Sizes}
 use Rattle.layout.specs.Sizes.{tableCells}
 use Rattle.layout.proofs.Ranges.{table-high}
-use Rattle.hash.specs.Places.{cellOf}
+use Rattle.hash.specs.Places.{cellOf, Within}
 use Rattle.list.specs.Records.{Records, Room, keyAt, isListed, appended}
 use Rattle.list.proofs.Laws.{length-key, key-inside, keys-inside, key-appended, room-appended}
 use Rattle.marks.specs.Marks.{firstMark, putMark}
-use Rattle.peeling.specs.Table.{Tab, Fit, InBytes, Within, anyEmpty, hasEmpty, takenOut}
+use Rattle.peeling.specs.Table.{Tab, Fit, InBytes, anyEmpty, hasEmpty, takenOut}
 use Rattle.peeling.specs.Seen.{seenBit, seenBitOf, ClearMeansNew}
 use Rattle.peeling.specs.Peel.{Fits, peeled, peelDamaged, peelTaken, peelAt, peelOf}
 use Rattle.peeling.specs.declared.Step.{Step}
 use Rattle.peeling.specs.declared.Step.the-variants.{Quiet, Full, Damaged, Next}
-use Rattle.peeling.proofs.Table.{empty-is, places-within, fit-out}
+use Rattle.peeling.proofs.Table.{empty-is, fit-out}
 use Rattle.peeling.proofs.Seen.{clear-new, covers-more}
 use Rattle.laws.proofs.Rows.{row-within}
 

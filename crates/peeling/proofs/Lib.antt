@@ -3,3 +3,4 @@ pub mod Table
 pub mod Seen
 pub mod Answers
 pub mod Loop
+pub mod Outcomes

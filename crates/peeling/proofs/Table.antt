@@ -27,7 +27,7 @@ use Rattle.list.specs.Records.{keyAt}
 use Rattle.list.proofs.Laws.{length-key}
 use Rattle.marks.specs.Marks.{putMark}
 use Rattle.marks.proofs.Laws.{length-put}
-use Rattle.peeling.specs.Table.{Tab, tab, Fit, InBytes, Within, InPart, pureAt, anyEmpty, hasEmpty, mixed, oneLess, takenAt, takenOut}
+use Rattle.peeling.specs.Table.{Tab, tab, Fit, InBytes, InPart, pureAt, anyEmpty, hasEmpty, mixed, oneLess, takenAt, takenOut}
 use Rattle.laws.proofs.Rows.{row-within}
 
 -- ---- parts
@@ -86,13 +86,6 @@ pub empty-is : (l : Layout) (z : Sizes) (r : Ranged z) (salt : ℕ) (key flows :
     → anyEmpty at (z .k) flows ≡ hasEmpty l z salt flows key
 unfolding anyEmpty hasEmpty
 empty-is l z r salt key flows e = any-at (z .k) (cellOf l z salt key) (λ c. eqb (getD flows c 0) 0) (r .k-high) e
-
--- the first k places of a key are cells
-pub places-within : (l : Layout) (z : Sizes) (lays : Lays l) (r : Ranged z) (salt : ℕ) (key : List ℕ) {at : List ℕ} → at ≡ listUpto 4
-    (cellOf l z salt key)
-    → Within at (z .k) (tableCells l z)
-places-within l z lays r salt key e i h =
-    rw (e, list-at 4 (cellOf l z salt key) 0 i (omega (arith, r .k-high))) (cell-within l z lays r salt key i h)
 
 -- place i of a key is its cell in part i
 pub place-part : (l : Layout) (z : Sizes) (lays : Lays l) (r : Ranged z) (salt : ℕ) (key : List ℕ) {at : List ℕ} → at ≡ listUpto 4

@@ -43,10 +43,6 @@ pub record Fit (l : Layout) (z : Sizes) (t : Tab) : Type 0 where
 abbrev pub InBytes : Layout → ℕ → ℕ → Type 0
 InBytes l bytes c = c * l .key + l .key ≤ bytes
 
--- the first k places are below n
-abbrev pub Within : List ℕ → ℕ → ℕ → Type 0
-Within at k n = (i : ℕ) → i < k → getD at i 0 < n
-
 -- cell c of the table lies in part i
 pub record InPart (l : Layout) (z : Sizes) (i c : ℕ) : Type 0 where
   pub inside : c < tableCells l z

@@ -6,14 +6,13 @@ ghost use Prim.Native.Nat.{_+_, _-_, _*_, _<_, _≤_};
 ghost use lib.ListN.{length, getD};
 ghost use Rattle.laws.specs.Upto.{listUpto};
 ghost use Rattle.layout.specs.Sizes.{Lays, Ranged};
-ghost use Rattle.hash.specs.Places.{cellOf};
+ghost use Rattle.hash.specs.Places.{cellOf, Within};
 ghost use Rattle.list.specs.Records.{records, isListed};
 ghost use Rattle.peeling.specs.Table.{
   tab,
   Fit,
   InPart,
   InBytes,
-  Within,
   pureAt,
   anyEmpty,
   mixed,

@@ -16,15 +16,14 @@ use Rattle.layout.specs.declared.Layout.{Layout}
 use Rattle.layout.specs.declared.Sizes.{Sizes}
 use Rattle.layout.specs.Sizes.{Lays, Ranged, partCells, tableCells}
 use Rattle.layout.proofs.Ranges.{part-low, table-high}
-use Rattle.hash.specs.Places.{cellOf, hasCell}
-use Rattle.hash.proofs.Apart.{cell-within, cells-differ}
+use Rattle.hash.specs.Places.{cellOf, hasCell, Within}
+use Rattle.hash.proofs.Apart.{cell-within, cells-differ, places-within}
 use Rattle.list.specs.Records.{Records, records, keyAt, isKnown, isListed}
 use Rattle.marks.specs.Marks.{marked, putMark}
 use Rattle.marks.proofs.Laws.{length-put, marked-same, marked-other}
 use Rattle.list.proofs.Laws.{length-key}
-use Rattle.peeling.specs.Table.{InPart, Within}
+use Rattle.peeling.specs.Table.{InPart}
 use Rattle.peeling.specs.Seen.{seenBit, seenBitOf, Covers, ClearMeansNew}
-use Rattle.peeling.proofs.Table.{places-within}
 use Rattle.peeling.proofs.Seen.{clear-new}
 use Rattle.test8.specs.Given.{flagSet, renewed, oneMore, mixedIn, noted, seenUpto}
 use Rattle.test8.specs.Test8.{keysRepeat, unknownIn, unknownsGiven, positionsGiven}

@@ -9,7 +9,8 @@ ghost use Rattle.laws.specs.Upto.{anyUpto, allUpto, numberUpto};
 ghost use Rattle.layout.specs.Sizes.{Lays, Ranged, tableCells};
 ghost use Rattle.list.specs.Records.{records, Room};
 ghost use Rattle.marks.specs.Marks.{wordsFor};
-ghost use Rattle.peeling.specs.Table.{tab, Fit, Within};
+ghost use Rattle.peeling.specs.Table.{tab, Fit};
+ghost use Rattle.hash.specs.Places.{Within};
 ghost use Rattle.test8.specs.Given.{flagSet, renewed, oneMore, mixedIn, noted, seenUpto};
 ghost use Rattle.test8.specs.Test8.{
   overListed,

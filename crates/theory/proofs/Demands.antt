@@ -67,7 +67,8 @@ module _ (w : Switch) (e : Counted w) where
     pub after-holds : Holds w e (after l)
     after-holds = goes-holds w e (received w e) holds₀ after-goes
 
-    ended-holds : Holds w e (ended l)
+    -- Theorem: and after the settling
+    pub ended-holds : Holds w e (ended l)
     ended-holds = goes-holds w e (received w e) holds₀ (ending .0)
 
     -- Theorem (demand 2)

@@ -1,252 +1,255 @@
--- The exchange of two clean switches ends with both lists at their joint closure, and adds no count.
+-- The exchange of two switches is that of a family along one pair: so it ends, with both lists at their joint closure, and adds no count.
 use mathlib.Core.Path.{_≡_, refl, sym, ap, _∙_, subst}
 use mathlib.Core.Logic.{inl, inr}
 use mathlib.Core.Bool.{Bool, true, false, cond}
-use mathlib.Core.List.{List}
+use mathlib.Core.List.{List, [], _∷_}
 use Prim.Native.Nat.{ℕ, zero, suc, _+_, _*_, _<_}
 use native.Mathlib.Omega.{arith}
-use lib.ListN.{length}
-use lib.Dec.{eqb, ltb, leb}
-use Rattle.laws.proofs.Bools.{split, clash, or-e, or-fl, or-fr}
+use Rattle.laws.specs.Upto.{anyUpto}
+use Rattle.laws.proofs.Bools.{split}
 use Rattle.theory.specs.Flow.{Key, among}
-use Rattle.theory.specs.Session.{Session, keysOf, handedOf, listed, handedOver, counted}
-use Rattle.theory.specs.HandOver.{Switch, handAnswer, handEach, settleAt}
+use Rattle.theory.specs.Session.{listed, counted}
+use Rattle.theory.specs.Settle.{Stop, settled, listFull, damage}
+use Rattle.theory.specs.HandOver.{Switch, settleAt}
 use Rattle.theory.specs.Fits.{Fits}
-use Rattle.theory.specs.Runs.{start, PeelClosed, AtRest}
+use Rattle.theory.specs.Runs.{PeelClosed}
 use Rattle.theory.specs.Invariant.{Counted, Holds}
 use Rattle.theory.specs.Demands.{HandedCounted}
-use Rattle.theory.specs.Exchange.{Pair, finished, Exchanged, handAll, handBoth, settleBoth, grew, goOn, rounds, thenRounds, exchange}
-use Rattle.theory.specs.Exchange.{PassesOwn, Undenied, JointlyClosed, JointClosure}
-use Rattle.theory.proofs.Records.{where-listed}
-use Rattle.theory.proofs.Runs.{listed-stays, listed-least}
-use Rattle.theory.proofs.Confluence.{rest-closed, same-counted}
-use Rattle.theory.proofs.Steps.{fits-length}
-use Rattle.theory.proofs.Settle.{none-empty, settle-handed}
-use Rattle.theory.proofs.Calls.{Goes, goes-holds, settle-goes, calls-go}
-use Rattle.theory.proofs.Grown.{grown-length, grown-same, settle-grown, calls-grown, passed}
-use Rattle.theory.proofs.Onward.{handed-from, onward-trans, onward-settle, onward-last}
-use borrow.Author.Tests.{ltb-true, ltb-false}
+use Rattle.theory.specs.Exchange.{Pair, Ending, finished, stoppedA, stoppedB, Exchanged, handBoth, settleBoth, round, grew, goOn, rounds}
+use Rattle.theory.specs.Exchange.{thenRounds, exchange, PassesOwn, Undenied, JointlyClosed, JointClosure}
+use Rattle.theory.specs.Family.{Family, FamilyEnding, ended, stoppedAt, Ended, Way, bothWays, leads, Within, putAt, handTo, handAlong}
+use Rattle.theory.specs.Family.{andThen, settleOne, settleUpto, roundAlong, anyGrew, roundsAlong, sumUpto, roundsRoom, exchangeAlong}
+use Rattle.theory.specs.Family.{UndeniedAlong, ClosedAlong, ClosureAlong}
+use Rattle.theory.proofs.Onward.{within-both}
+use Rattle.theory.proofs.Room.{NotFull, NeverFull, AllFit, family-over, family-enough, family-never-13}
+use Rattle.theory.proofs.Family.{family-ends, family-closure, family-counts}
 
--- ---- one side of the exchange
-module _ (w : Switch) (e : Counted w) (s₀ : Session) (i₀ : Holds w e s₀) where
-  -- a session lists no more than a closed set that has what stood there and what was handed over
-  goes-within : (X : Key → Bool) → PeelClosed (w .has) (e .flows) X → ((k : Key) → listed s₀ k ≡ true → X k ≡ true) → (s : Session)
-      → Goes w e s₀ i₀ s → ((k : Key) → handedOver s k ≡ true → X k ≡ true) → (k : Key) → listed s k ≡ true → X k ≡ true
-  goes-within X cl x₀ s g h = listed-least w e s₀ i₀ X cl x₀ (g .run) h
+-- ---- two switches as a family
+abbrev pub two : {T : Type 0} → T → T → ℕ → T
+two x y zero = x
+two x y (suc i) = y
 
-  handed-in : (X : Key → Bool) (s : Session) → ((k : Key) → listed s k ≡ true → X k ≡ true) → (k : Key) → handedOver s k ≡ true → X k ≡ true
-  handed-in X s x k h = x k (where-listed (λ r. r .handed) (s .list) k h)
+abbrev pub familyOf : Pair → Family
+familyOf p = record { session = two (p .a) (p .b); twelves = p .twelves }
 
-  -- a flow that passes the filter and was answered neither 0 nor 12 is listed
-  flow-listed : (s : Session) → Goes w e s₀ i₀ s → (k : Key) → among k (e .flows) ≡ true → w .passes k ≡ true
-      → (eqb (handAnswer w k s) 0 ≡ false) × (eqb (handAnswer w k s) 12 ≡ false) → listed s k ≡ true
-  unfolding handAnswer
-  flow-listed s g k m p q = elim (split (listed s k)) [
-    | inl l ↦ l
-    | inr l ↦
-        let z = none-empty w e s₀ i₀ s (goes-holds w e s₀ i₀ g) k m l in
-        elim (split (leb (w .size) (length (handedOf (s .list))))) [
-          | inl r ↦ clash refl (rw (p, l, z, r) at (q .1))
-          | inr r ↦ clash refl (rw (p, l, z, r) at (q .0))
-        ]
-  ]
+abbrev pub onePair : List Way
+onePair = bothWays (record { from = 0; to = 1 } ∷ [])
 
-  -- the counts at rest are those of a settling right at the start
-  counts-alone : Fits (w .size) s₀ → (s : Session) → Goes w e s₀ i₀ s → AtRest (w .size) (w .has) s
-      → (k : Key) → counted s k ≡ counted (settleAt w s₀ .state) k
-  counts-alone fit s g rest =
-      let alone = settle-goes w e s₀ i₀ s₀ (record { run = start; fits = fit }) in
-      same-counted w e s₀ i₀ (g .run) (alone .0 .run) rest (alone .2)
+-- and back
+abbrev pub pairOf : Family → Pair
+pairOf p = record { a = p .session 0; b = p .session 1; twelves = p .twelves }
 
--- ---- both sides
-module _ (A B : Switch) (e : Counted A) (f : Counted B) (p₀ : Pair) (hA : Holds A e (p₀ .a)) (hB : Holds B f (p₀ .b)) where
-  record Good (p : Pair) : Type 0 where
-    pub goes-a : Goes A e (p₀ .a) hA (p .a)
-    pub goes-b : Goes B f (p₀ .b) hB (p .b)
-    pub least-a : (X Y : Key → Bool) → JointlyClosed A B e f p₀ X Y → (k : Key) → listed (p .a) k ≡ true → X k ≡ true
-    pub least-b : (X Y : Key → Bool) → JointlyClosed A B e f p₀ X Y → (k : Key) → listed (p .b) k ≡ true → Y k ≡ true
+abbrev pub endOf : FamilyEnding → Ending
+endOf ended = finished
+endOf (stoppedAt zero s) = stoppedA s
+endOf (stoppedAt (suc i) s) = stoppedB s
 
-  abbrev settledPair : Pair → Pair
-  settledPair p = record { a = settleAt A (p .a) .state; b = settleAt B (p .b) .state; twelves = p .twelves }
+abbrev pub exchangedOf : Ended → Exchanged
+exchangedOf r = record { pair = pairOf (r .family); ending = endOf (r .ending) }
 
-  good-settled : (p : Pair) → Good p → settleBoth A B p ≡ record { pair = settledPair p; ending = finished }
-  unfolding settleBoth
-  good-settled p g = rw (settle-goes A e (p₀ .a) hA (p .a) (g .goes-a) .1, settle-goes B f (p₀ .b) hB (p .b) (g .goes-b) .1)
+module _ (A B : Switch) where
+  abbrev W : ℕ → Switch
+  W = two A B
 
-  good-settle : (p : Pair) → Good p → Good (settledPair p)
-  good-settle p g = record {
-    goes-a = settle-goes A e (p₀ .a) hA (p .a) (g .goes-a) .0;
-    goes-b = settle-goes B f (p₀ .b) hB (p .b) (g .goes-b) .0;
-    least-a = λ X Y j. goes-within A e (p₀ .a) hA X (j .peels-a) (j .stood-a) (settledPair p .a) (settle-goes A e (p₀ .a) hA (p .a) (g .goes-a) .0)
-        (λ k h. handed-in A e (p₀ .a) hA X (p .a) (g .least-a X Y j) k (rw (settle-handed (A .size) (A .has) (p .a)) at h));
-    least-b = λ X Y j. goes-within B f (p₀ .b) hB Y (j .peels-b) (j .stood-b) (settledPair p .b) (settle-goes B f (p₀ .b) hB (p .b) (g .goes-b) .0)
-        (λ k h. handed-in B f (p₀ .b) hB Y (p .b) (g .least-b X Y j) k (rw (settle-handed (B .size) (B .has) (p .b)) at h));
+  two-hand : (p : Family) → pairOf (handAlong W onePair p) ≡ handBoth A B (pairOf p)
+  unfolding bothWays handAlong handTo putAt handBoth
+  two-hand p = refl
+
+  two-settle : (p : Family) → exchangedOf (settleUpto W 2 p) ≡ settleBoth A B (pairOf p)
+  unfolding settleUpto settleOne andThen putAt settleBoth
+  two-settle p = stops (settleAt A (p .session 0) .stop) (settleAt B (p .session 1) .stop) refl refl
+    where
+      stops : (s t : Stop) → settleAt A (p .session 0) .stop ≡ s → settleAt B (p .session 1) .stop ≡ t
+          → exchangedOf (settleUpto W 2 p) ≡ settleBoth A B (pairOf p)
+      stops settled settled e f = rw (e, f)
+      stops settled (listFull c) e f = rw (e, f)
+      stops settled (damage c) e f = rw (e, f)
+      stops (listFull c) t e f = rw e
+      stops (damage c) t e f = rw e
+
+  two-round : (p : Family) → exchangedOf (roundAlong 2 W onePair p) ≡ round A B (pairOf p)
+  two-round p = two-settle (handAlong W onePair p) ∙ ap (settleBoth A B) (two-hand p)
+
+  two-grew : (p q : Family) → anyGrew 2 p q ≡ grew (pairOf p) (pairOf q)
+  unfolding anyGrew anyUpto
+  two-grew p q = refl
+
+  two-on : (m : ℕ) → ((q : Family) → exchangedOf (roundsAlong 2 W onePair m q) ≡ rounds A B m (pairOf q))
+      → (p : Family) (r : Ended) (end : FamilyEnding)
+      → exchangedOf (andThen (λ q. cond (anyGrew 2 p q) (roundsAlong 2 W onePair m q) r) r end)
+      ≡ goOn (rounds A B m) (pairOf p) (exchangedOf r) (endOf end)
+  unfolding andThen goOn
+  two-on m ih p r ended = rw (sym (two-grew p (r .family))) (elim (split (anyGrew 2 p (r .family))) [ inl y ↦ rw y (ih (r .family)) | inr y ↦ rw y ])
+  two-on m ih p r (stoppedAt zero s) = refl
+  two-on m ih p r (stoppedAt (suc i) s) = refl
+
+  two-rounds : (m : ℕ) (p : Family) → exchangedOf (roundsAlong 2 W onePair m p) ≡ rounds A B m (pairOf p)
+  unfolding roundsAlong rounds
+  two-rounds zero p = refl
+  two-rounds (suc m) p =
+      let r = roundAlong 2 W onePair p in
+      two-on m (λ q. two-rounds m q) p r (r .ending) ∙ ap (λ t. goOn (rounds A B m) (pairOf p) t (t .ending)) (two-round p)
+
+  two-then : (m : ℕ) (r : Ended) (end : FamilyEnding)
+      → exchangedOf (andThen (roundsAlong 2 W onePair m) r end) ≡ thenRounds A B m (exchangedOf r) (endOf end)
+  unfolding andThen thenRounds
+  two-then m r ended = two-rounds m (r .family)
+  two-then m r (stoppedAt zero s) = refl
+  two-then m r (stoppedAt (suc i) s) = refl
+
+  two-room : roundsRoom 2 W ≡ 2 * A .size + 2 * B .size
+  unfolding sumUpto
+  two-room = omega arith
+
+  two-begins : (m : ℕ) (p : Pair)
+      → exchangedOf (andThen (roundsAlong 2 W onePair m) (settleUpto W 2 (familyOf p)) (settleUpto W 2 (familyOf p) .ending))
+      ≡ thenRounds A B m (settleBoth A B p) (settleBoth A B p .ending)
+  two-begins m p =
+      let r = settleUpto W 2 (familyOf p) in
+      two-then m r (r .ending) ∙ ap (λ t. thenRounds A B m t (t .ending)) (two-settle (familyOf p))
+
+  -- Theorem: the exchange of two is the family's, along one pair
+  pub two-are : (p : Pair) → exchangedOf (exchangeAlong 2 (two A B) onePair (familyOf p)) ≡ exchange A B p
+  unfolding exchangeAlong exchange
+  two-are p = two-begins (roundsRoom 2 W + 1) p ∙ ap (λ m. thenRounds A B (m + 1) (settleBoth A B p) (settleBoth A B p .ending)) two-room
+
+  -- ---- any two sessions with room
+  two-fit : (p : Pair) → Fits (A .size) (p .a) → Fits (B .size) (p .b) → AllFit 2 (two A B) (familyOf p)
+  two-fit p f g zero b = f
+  two-fit p f g (suc i) b = g
+
+  -- Theorem: with more rounds allowed, the exchange is the same
+  pub exchange-enough : (p : Pair) → Fits (A .size) (p .a) → Fits (B .size) (p .b) → (m : ℕ) → 2 * A .size + 2 * B .size < m
+      → thenRounds A B m (settleBoth A B p) (settleBoth A B p .ending) ≡ exchange A B p
+  exchange-enough p f g m h =
+      sym (two-begins m p) ∙ ap exchangedOf (family-enough 2 (two A B) onePair (familyOf p) (two-fit p f g) m (omega (arith, two-room))) ∙ two-are p
+
+-- the two ways to end: a settling of either stopped, or after some rounds one went through in which neither list grew
+pub data PairOver (A B : Switch) (first : Pair) (r : Exchanged) : Type 0 where
+  by-a : (s : Stop) → r .ending ≡ stoppedA s → PairOver A B first r
+  by-b : (s : Stop) → r .ending ≡ stoppedB s → PairOver A B first r
+  still : (m : ℕ) (p : Pair) → rounds A B m first ≡ record { pair = p; ending = finished } → r ≡ round A B p → r .ending ≡ finished
+      → grew p (r .pair) ≡ false → PairOver A B first r
+
+-- no 13 ended it
+abbrev pub Never13 : Ending → Type 0
+Never13 finished = Unit {0}
+Never13 (stoppedA stop) = NotFull stop
+Never13 (stoppedB stop) = NotFull stop
+
+module _ (A B : Switch) where
+  over-stopped : (first : Pair) (r : Ended) (i : ℕ) (s : Stop) → r .ending ≡ stoppedAt i s → PairOver A B first (exchangedOf r)
+  over-stopped first r zero s e = by-a s (ap endOf e)
+  over-stopped first r (suc i) s e = by-b s (ap endOf e)
+
+  -- Theorem: the exchange ends with a stop, or after a round in which neither list grew
+  pub exchange-over : (p : Pair) → Fits (A .size) (p .a) → Fits (B .size) (p .b) → PairOver A B (settleBoth A B p .pair) (exchange A B p)
+  exchange-over p f g =
+      let r = exchangeAlong 2 (two A B) onePair (familyOf p) in
+      let q = settleUpto (two A B) 2 (familyOf p) in
+      let first = settleBoth A B p .pair in
+      let begins : pairOf (q .family) ≡ first = ap (λ t. t .pair) (two-settle A B (familyOf p)) in
+      subst (PairOver A B first) (two-are A B p) (elim (family-over 2 (two A B) onePair (familyOf p) (two-fit A B p f g)) [
+        | inl s ↦ over-stopped first r (s .switch) (s .stop) (s .ends)
+        | inr s ↦ still (s .rounds) (pairOf (s .before))
+            (ap (rounds A B (s .rounds)) (sym begins) ∙ sym (two-rounds A B (s .rounds) (q .family)) ∙ ap exchangedOf (s .reached))
+            (ap exchangedOf (s .is) ∙ two-round A B (s .before)) (ap endOf (s .ends))
+            (sym (two-grew A B (s .before) (r .family)) ∙ s .none-grew)
+      ])
+
+  never-of : (end : FamilyEnding) → NeverFull end → Never13 (endOf end)
+  never-of ended h = h
+  never-of (stoppedAt zero s) h = h
+  never-of (stoppedAt (suc i) s) h = h
+
+  -- Theorem: no exchange of sessions with room is ended by a 13
+  pub exchange-never-13 : (p : Pair) → Fits (A .size) (p .a) → Fits (B .size) (p .b) → Never13 (exchange A B p .ending)
+  exchange-never-13 p f g = subst (λ r. Never13 (r .ending)) (two-are A B p)
+      (never-of (exchangeAlong 2 (two A B) onePair (familyOf p) .ending)
+      (family-never-13 2 (two A B) onePair (familyOf p) (two-fit A B p f g)))
+
+-- ---- clean switches
+module _ (A B : Switch) (e : Counted A) (f : Counted B) (p₀ : Pair) where
+  abbrev counts : (i : ℕ) → Counted (two A B i)
+  counts zero = e
+  counts (suc i) = f
+
+  -- sets closed for two are closed for the family
+  joint : (X Y : Key → Bool) → JointlyClosed A B e f p₀ X Y → ClosedAlong 2 (two A B) counts onePair (familyOf p₀) (two X Y)
+  joint X Y j = record { stood = stood; peels = peels; along = λ a b _. along a b }
+    where
+      stood : (i : ℕ) → i < 2 → (k : Key) → listed (two (p₀ .a) (p₀ .b) i) k ≡ true → two X Y i k ≡ true
+      stood zero _ = j .stood-a
+      stood (suc i) _ = j .stood-b
+
+      peels : (i : ℕ) → i < 2 → PeelClosed (two A B i .has) (counts i .flows) (two X Y i)
+      peels zero _ = j .peels-a
+      peels (suc i) _ = j .peels-b
+
+      along : (a b : ℕ) → (k : Key) → among k (counts b .flows) ≡ true → two X Y a k ≡ true → two X Y b k ≡ true
+      along zero zero k m x = x
+      along zero (suc b) k m x = j .from-a k m x
+      along (suc a) zero k m x = j .from-b k m x
+      along (suc a) (suc b) k m x = x
+
+  two-closure : (q : Family) → ClosureAlong 2 (two A B) counts onePair (familyOf p₀) q → JointClosure A B e f p₀ (pairOf q)
+  unfolding bothWays leads
+  two-closure q c = record {
+    closed = record {
+      stood-a = c .closed .stood 0 (omega arith);
+      stood-b = c .closed .stood 1 (omega arith);
+      peels-a = c .closed .peels 0 (omega arith);
+      peels-b = c .closed .peels 1 (omega arith);
+      from-b = c .closed .along 1 0 refl;
+      from-a = c .closed .along 0 1 refl;
+    };
+    least-a = λ X Y j. c .least (two X Y) (joint X Y j) 0 (omega arith);
+    least-b = λ X Y j. c .least (two X Y) (joint X Y j) 1 (omega arith);
   }
 
-  good-hand : (p : Pair) → Good p → HandedCounted (e .flows) (handBoth A B p .a) → HandedCounted (f .flows) (handBoth A B p .b)
-      → Good (handBoth A B p)
-  unfolding handBoth
-  good-hand p g oursA oursB =
-      let la = keysOf (p .a .list) in
-      let b₁ = handAll B la (p .b) in
-      let lb = keysOf (b₁ .list) in
-      let gb : Goes B f (p₀ .b) hB b₁ = calls-go B f (p₀ .b) hB (handEach la) (p .b) (g .goes-b) oursB in
-      let ga : Goes A e (p₀ .a) hA (handAll A lb (p .a)) = calls-go A e (p₀ .a) hA (handEach lb) (p .a) (g .goes-a) oursA in
-      let in-b : (X Y : Key → Bool) → JointlyClosed A B e f p₀ X Y → (k : Key) → listed b₁ k ≡ true → Y k ≡ true
-      = λ X Y j. goes-within B f (p₀ .b) hB Y (j .peels-b) (j .stood-b) b₁ gb (λ k h. elim (handed-from B la (p .b) k h) [
-        | inl m ↦ handed-in B f (p₀ .b) hB Y (p .b) (g .least-b X Y j) k m
-        | inr m ↦ j .from-a k (oursB k h) (g .least-a X Y j k m)
-      ]) in
-      record {
-        goes-a = ga;
-        goes-b = gb;
-        least-a = λ X Y j. goes-within A e (p₀ .a) hA X (j .peels-a) (j .stood-a) (handAll A lb (p .a)) ga
-            (λ k h. elim (handed-from A lb (p .a) k h) [
-              | inl m ↦ handed-in A e (p₀ .a) hA X (p .a) (g .least-a X Y j) k m
-              | inr m ↦ j .from-b k (oursA k h) (in-b X Y j k m)
-            ]);
-        least-b = in-b;
-      }
+  two-undenied : (q : Family) → Undenied A B e f (pairOf q) → UndeniedAlong 2 (two A B) counts q
+  two-undenied q o = record { ours = ours; no-twelve = o .no-twelve }
+    where
+      ours : (i : ℕ) → i < 2 → HandedCounted (counts i .flows) (q .session i)
+      ours zero _ = o .ours-a
+      ours (suc zero) _ = o .ours-b
+      ours (suc (suc i)) b = absurd (omega arith)
 
-  -- ---- a round in which neither list grew
-  module _ (ownA : PassesOwn A e) (ownB : PassesOwn B f) where
-    record Finished (r : Exchanged) : Type 0 where
-      pub ends : r .ending ≡ finished
-      pub good : Good (r .pair)
-      pub rest-a : AtRest (A .size) (A .has) (r .pair .a)
-      pub rest-b : AtRest (B .size) (B .has) (r .pair .b)
-      pub from-b : (k : Key) → among k (e .flows) ≡ true → listed (r .pair .b) k ≡ true → listed (r .pair .a) k ≡ true
-      pub from-a : (k : Key) → among k (f .flows) ≡ true → listed (r .pair .a) k ≡ true → listed (r .pair .b) k ≡ true
+  module _ (hA : Holds A e (p₀ .a)) (hB : Holds B f (p₀ .b)) (ownA : PassesOwn A e) (ownB : PassesOwn B f)
+      (fitA : Fits (A .size) (p₀ .a)) (fitB : Fits (B .size) (p₀ .b)) (ours : Undenied A B e f (exchange A B p₀ .pair)) where
+    abbrev final : Ended
+    final = exchangeAlong 2 (two A B) onePair (familyOf p₀)
 
-    -- the lengths of one list through a round: it is handed to, then settled
-    still : (w : Switch) (l : List Key) (s : Session) → ltb (length (s .list)) (length (settleAt w (handAll w l s) .state .list)) ≡ false
-        → (length (handAll w l s .list) ≡ length (s .list))
-        × (keysOf (settleAt w (handAll w l s) .state .list) ≡ keysOf (handAll w l s .list))
-    still w l s z =
-        let t = handAll w l s in
-        let u = settleAt w t .state in
-        let g = grown-length s t (calls-grown w (handEach l) s) in
-        let h = grown-length t u (settle-grown (w .size) (w .has) t) in
-        let le = ltb-false (length (s .list)) (length (u .list)) z in
-        (omega arith, grown-same t u (settle-grown (w .size) (w .has) t) (omega arith))
+    within : Within 2 onePair
+    within = within-both 2 (record { from = 0; to = 1 } ∷ []) (unfold Within in (omega arith, omega arith, tt))
 
-    quiet-round : (p : Pair) → Good p → Good (handBoth A B p) → grew p (settledPair (handBoth A B p)) ≡ false → handBoth A B p .twelves ≡ 0
-        → Finished (record { pair = settledPair (handBoth A B p); ending = finished })
-    unfolding handBoth
-    quiet-round p g gh none z =
-        let la = keysOf (p .a .list) in
-        let b₁ = handAll B la (p .b) in
-        let lb = keysOf (b₁ .list) in
-        let a₁ = handAll A lb (p .a) in
-        let a₂ = settleAt A a₁ .state in
-        let b₂ = settleAt B b₁ .state in
-        let ta = ltb (length (p .a .list)) (length (a₂ .list)) in
-        let tb = ltb (length (p .b .list)) (length (b₂ .list)) in
-        let sa = still A lb (p .a) (or-fl ta tb none) in
-        let sb = still B la (p .b) (or-fr ta tb none) in
-        let pa = passed A lb (p .a) (sa .0) (omega (arith, z)) in
-        let pb = passed B la (p .b) (sb .0) (omega (arith, z)) in
-        let keys-a : keysOf (a₂ .list) ≡ keysOf (p .a .list) = sa .1 ∙ ap (λ q. keysOf (q .list)) (pa .kept) in
-        let keys-b : keysOf (b₂ .list) ≡ keysOf (p .b .list) = sb .1 ∙ ap (λ q. keysOf (q .list)) (pb .kept) in
-        record {
-          ends = refl;
-          good = good-settle (handBoth A B p) gh;
-          rest-a = settle-goes A e (p₀ .a) hA a₁ (gh .goes-a) .2;
-          rest-b = settle-goes B f (p₀ .b) hB b₁ (gh .goes-b) .2;
-          from-b = λ k m l. ap (among k) keys-a
-              ∙ flow-listed A e (p₀ .a) hA (p .a) (g .goes-a) k m (ownA k m) (pa .answers k (ap (among k) (sym (sb .1)) ∙ l));
-          from-a = λ k m l. ap (among k) keys-b
-              ∙ flow-listed B f (p₀ .b) hB (p .b) (g .goes-b) k m (ownB k m) (pb .answers k (ap (among k) (sym keys-a) ∙ l));
-        }
+    holds : (i : ℕ) → i < 2 → Holds (two A B i) (counts i) (two (p₀ .a) (p₀ .b) i)
+    holds zero _ = hA
+    holds (suc i) _ = hB
 
-    -- ---- all rounds
-    rounds-step : (m : ℕ) (p : Pair) → Good (handBoth A B p)
-        → rounds A B (suc m) p ≡ cond (grew p (settledPair (handBoth A B p))) (rounds A B m (settledPair (handBoth A B p)))
-        (record { pair = settledPair (handBoth A B p); ending = finished })
-    unfolding rounds goOn
-    rounds-step m p g = ap (λ r. goOn (rounds A B m) p r (r .ending)) (good-settled (handBoth A B p) g)
+    own : (i : ℕ) → i < 2 → PassesOwn (two A B i) (counts i)
+    own zero _ = ownA
+    own (suc i) _ = ownB
 
-    -- a round in which a list grew leaves less room
-    longer : (p : Pair) → grew p (settledPair (handBoth A B p)) ≡ true
-        → length (p .a .list) + length (p .b .list) < length (settledPair (handBoth A B p) .a .list) + length (settledPair (handBoth A B p) .b .list)
-    unfolding handBoth
-    longer p y =
-        let la = keysOf (p .a .list) in
-        let b₁ = handAll B la (p .b) in
-        let a₁ = handAll A (keysOf (b₁ .list)) (p .a) in
-        let a₂ = settleAt A a₁ .state in
-        let b₂ = settleAt B b₁ .state in
-        let ga = grown-length (p .a) a₁ (calls-grown A (handEach (keysOf (b₁ .list))) (p .a)) in
-        let ha = grown-length a₁ a₂ (settle-grown (A .size) (A .has) a₁) in
-        let gb = grown-length (p .b) b₁ (calls-grown B (handEach la) (p .b)) in
-        let hb = grown-length b₁ b₂ (settle-grown (B .size) (B .has) b₁) in
-        elim (or-e (ltb (length (p .a .list)) (length (a₂ .list))) (ltb (length (p .b .list)) (length (b₂ .list))) y) [
-          | inl t ↦ omega (arith, ltb-true (length (p .a .list)) (length (a₂ .list)) t)
-          | inr t ↦ omega (arith, ltb-true (length (p .b .list)) (length (b₂ .list)) t)
-        ]
+    undenied : UndeniedAlong 2 (two A B) counts (final .family)
+    undenied = two-undenied (final .family) (subst (λ r. Undenied A B e f (r .pair)) (sym (two-are A B p₀)) ours)
 
-    rounds-finish : (m : ℕ) (p : Pair) → Good p → 2 * A .size + 2 * B .size < m + (length (p .a .list) + length (p .b .list))
-        → Undenied A B e f (rounds A B m p .pair) → Finished (rounds A B m p)
-    rounds-finish zero p g l o =
-        absurd (omega (arith, fits-length (A .size) (p .a) (g .goes-a .fits), fits-length (B .size) (p .b) (g .goes-b .fits)))
-    rounds-finish (suc m) p g l o =
-        let h = handBoth A B p in
-        let on = onward-trans h (settleBoth A B h .pair) (rounds A B (suc m) p .pair) (onward-settle A B h) (onward-last A B m p) in
-        let gh : Good h = good-hand p g (λ k x. o .ours-a k (on .handed-a k x)) (λ k x. o .ours-b k (on .handed-b k x)) in
-        let q = settledPair h in
-        let step = rounds-step m p gh in
-        elim (split (grew p q)) [
-          | inl y ↦ (let z = step ∙ ap (λ t. cond t (rounds A B m q) (record { pair = q; ending = finished })) y in
-              subst Finished (sym z) (rounds-finish m q (good-settle h gh) (omega (arith, longer p y)) (subst (λ r. Undenied A B e f (r .pair)) z o)))
-          | inr y ↦ (let z = step ∙ ap (λ t. cond t (rounds A B m q) (record { pair = q; ending = finished })) y in
-              subst Finished (sym z) (quiet-round p g gh y (omega (arith, on .twelves-le, o .no-twelve))))
-        ]
+    -- Theorem: no 13 or 14 ends the exchange
+    pub exchange-ends : exchange A B p₀ .ending ≡ finished
+    exchange-ends = sym (ap (λ r. r .ending) (two-are A B p₀))
+        ∙ ap endOf (family-ends 2 (two A B) onePair within counts (familyOf p₀) holds (two-fit A B p₀ fitA fitB) own undenied)
 
-    -- ---- the exchange from sessions with room
-    module _ (fitA : Fits (A .size) (p₀ .a)) (fitB : Fits (B .size) (p₀ .b)) (ours : Undenied A B e f (exchange A B p₀ .pair)) where
-      start-good : Good p₀
-      start-good = record {
-        goes-a = record { run = start; fits = fitA };
-        goes-b = record { run = start; fits = fitB };
-        least-a = λ X Y j. j .stood-a;
-        least-b = λ X Y j. j .stood-b;
-      }
+    -- Theorem: each list is the joint closure
+    pub exchange-closure : JointClosure A B e f p₀ (exchange A B p₀ .pair)
+    exchange-closure = subst (λ r. JointClosure A B e f p₀ (r .pair)) (two-are A B p₀) (two-closure (final .family)
+        (family-closure 2 (two A B) onePair within counts (familyOf p₀) holds (two-fit A B p₀ fitA fitB) own undenied))
 
-      exchange-is : exchange A B p₀ ≡ rounds A B (2 * A .size + 2 * B .size + 1) (settledPair p₀)
-      unfolding exchange thenRounds
-      exchange-is = ap (λ r. thenRounds A B (2 * A .size + 2 * B .size + 1) r (r .ending)) (good-settled p₀ start-good)
+    counts-at : (i : ℕ) → i < 2 → (k : Key) → counted (final .family .session i) k ≡ counted (settleAt (two A B i) (familyOf p₀ .session i) .state) k
+    counts-at = family-counts 2 (two A B) onePair within counts (familyOf p₀) holds (two-fit A B p₀ fitA fitB) own undenied
 
-      exchange-finish : Finished (exchange A B p₀)
-      exchange-finish = subst Finished (sym exchange-is)
-          (rounds-finish (2 * A .size + 2 * B .size + 1) (settledPair p₀) (good-settle p₀ start-good) (omega arith)
-          (subst (λ r. Undenied A B e f (r .pair)) exchange-is ours))
+    -- Theorem: the counts are those that each flowset yields by itself
+    pub exchange-counts-a : (k : Key) → counted (exchange A B p₀ .pair .a) k ≡ counted (settleAt A (p₀ .a) .state) k
+    exchange-counts-a k = ap (λ r. counted (r .pair .a) k) (sym (two-are A B p₀)) ∙ counts-at 0 (omega arith) k
 
-      -- Theorem: no 13 or 14 ends the exchange
-      pub exchange-ends : exchange A B p₀ .ending ≡ finished
-      exchange-ends = exchange-finish .ends
-
-      -- Theorem: each list is the joint closure
-      pub exchange-closure : JointClosure A B e f p₀ (exchange A B p₀ .pair)
-      exchange-closure =
-          let q = exchange A B p₀ .pair in
-          let r = exchange-finish in
-          let g = r .good in
-          record {
-            closed = record {
-              stood-a = listed-stays A e (p₀ .a) hA (g .goes-a .run);
-              stood-b = listed-stays B f (p₀ .b) hB (g .goes-b .run);
-              peels-a = rest-closed A e (q .a) (goes-holds A e (p₀ .a) hA (g .goes-a)) (r .rest-a);
-              peels-b = rest-closed B f (q .b) (goes-holds B f (p₀ .b) hB (g .goes-b)) (r .rest-b);
-              from-b = r .from-b;
-              from-a = r .from-a;
-            };
-            least-a = g .least-a;
-            least-b = g .least-b;
-          }
-
-      -- Theorem: the counts are those that each flowset yields by itself
-      pub exchange-counts-a : (k : Key) → counted (exchange A B p₀ .pair .a) k ≡ counted (settleAt A (p₀ .a) .state) k
-      exchange-counts-a = counts-alone A e (p₀ .a) hA fitA _ (exchange-finish .good .goes-a) (exchange-finish .rest-a)
-
-      pub exchange-counts-b : (k : Key) → counted (exchange A B p₀ .pair .b) k ≡ counted (settleAt B (p₀ .b) .state) k
-      exchange-counts-b = counts-alone B f (p₀ .b) hB fitB _ (exchange-finish .good .goes-b) (exchange-finish .rest-b)
+    pub exchange-counts-b : (k : Key) → counted (exchange A B p₀ .pair .b) k ≡ counted (settleAt B (p₀ .b) .state) k
+    exchange-counts-b k = ap (λ r. counted (r .pair .b) k) (sym (two-are A B p₀)) ∙ counts-at 1 (omega arith) k

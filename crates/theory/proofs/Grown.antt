@@ -46,8 +46,14 @@ grown-take has flag x s t g = record {
 grown-count : (has : Placement) (x : Key) (v : ℕ) (s t : Session) → Grown s t → Grown s (setCount has x v t)
 grown-count has x v s t g = record { new = g .new; keys = keys-told has t x v ∙ g .keys }
 
-grown-refl : (s : Session) → Grown s s
+pub grown-refl : (s : Session) → Grown s s
 grown-refl s = record { new = []; keys = sym (append-nil (keysOf (s .list))) }
+
+pub grown-trans : (s t u : Session) → Grown s t → Grown t u → Grown s u
+grown-trans s t u g h = record {
+  new = g .new ++ h .new;
+  keys = h .keys ∙ ap (λ l. l ++ h .new) (g .keys) ∙ append-assoc (keysOf (s .list)) (g .new) (h .new);
+}
 
 module _ (n : ℕ) (has : Placement) (s : Session) where
   grown-peel : (t u : Session) → Grown s t → peelPure n has t ≡ next u → Grown s u

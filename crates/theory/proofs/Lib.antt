@@ -26,10 +26,13 @@ pub mod Alone
 pub mod Positions
 pub mod Noted
 pub mod Proper
--- two switches
+-- switches that exchange their lists
 pub mod Grown
+pub mod Generic
 pub mod Onward
 pub mod Room
+pub mod Along
+pub mod Family
 pub mod Exchange
 -- the ten cases
 pub mod Cases

@@ -1,79 +1,233 @@
--- The exchange of any two sessions that have room is never ended by a 13, whatever their cells hold.
-use mathlib.Core.Path.{_≡_, refl}
-use mathlib.Core.Logic.{inl, inr}
-use Prim.Native.Nat.{ℕ, zero, suc, _+_, _*_}
+-- The exchange of any sessions that have room, whatever their cells hold: the rounds allowed are enough, it ends with a stop or after
+-- a round in which no list grew, and never with a 13.
+use mathlib.Core.Path.{_≡_, refl, sym, ap, _∙_, subst}
+use mathlib.Core.Logic.{_⊎_, inl, inr}
+use mathlib.Core.Bool.{Bool, true, false, cond}
+use mathlib.Core.List.{List}
+use Prim.Native.Nat.{ℕ, zero, suc, _+_, _*_, _≤_, _<_}
+use native.Mathlib.Nat.{le-refl}
+use native.Mathlib.Omega.{arith}
+use lib.ListN.{length}
+use lib.Dec.{ltb}
 use Rattle.laws.proofs.Bools.{split}
-use Rattle.theory.specs.Session.{Session, keysOf}
+use Rattle.laws.proofs.Upto.{any-some}
+use Rattle.theory.specs.Session.{keysOf}
 use Rattle.theory.specs.Settle.{Stop, settled, listFull, damage}
 use Rattle.theory.specs.HandOver.{Switch, handEach, settleAt}
 use Rattle.theory.specs.Fits.{Fits}
-use Rattle.theory.specs.Exchange.{Pair, Ending, finished, stoppedA, stoppedB, Exchanged, handBoth, afterB, afterA, settleBoth, round}
-use Rattle.theory.specs.Exchange.{grew, goOn, rounds, thenRounds, exchange}
+use Rattle.theory.specs.Family.{Family, FamilyEnding, ended, stoppedAt, Ended, Way, leads, handTo, handAlong, andThen, endingAt, settleOne}
+use Rattle.theory.specs.Family.{settleUpto, roundAlong, anyGrew, roundsAlong, sumUpto, roundsRoom, exchangeAlong}
+use Rattle.theory.proofs.Steps.{fits-length}
 use Rattle.theory.proofs.Settle.{settle-fits, never-13}
 use Rattle.theory.proofs.HandOver.{calls-fit}
+use Rattle.theory.proofs.Grown.{grown-length}
+use Rattle.theory.proofs.Generic.{sum-le, sum-lt, put-all}
+use Rattle.theory.proofs.Onward.{Onward, onward-round, upto-keeps, along-keeps, round-keeps}
+use borrow.Author.Tests.{ltb-true}
 
-abbrev NotFull : Stop → Type 0
+-- ---- what follows, where the ending is known
+module _ (go : Family → Ended) (r : Ended) where
+  pub then-ended : (end : FamilyEnding) → end ≡ ended → andThen go r end ≡ go (r .family)
+  unfolding andThen
+  then-ended end e = rw e
+
+  pub then-stopped : (end : FamilyEnding) (i : ℕ) (s : Stop) → end ≡ stoppedAt i s → andThen go r end ≡ r
+  unfolding andThen
+  then-stopped end i s e = rw e
+
+then-same : (go gone : Family → Ended) (r : Ended) (end : FamilyEnding) → go (r .family) ≡ gone (r .family) → andThen go r end ≡ andThen gone r end
+unfolding andThen
+then-same go gone r ended e = e
+then-same go gone r (stoppedAt i s) e = refl
+
+ending-cases : (i : ℕ) (stop : Stop) → (endingAt i stop ≡ ended) ⊎ ((c : Stop) × (endingAt i stop ≡ stoppedAt i c))
+ending-cases i settled = inl refl
+ending-cases i (listFull c) = inr (listFull c, refl)
+ending-cases i (damage c) = inr (damage c, refl)
+
+-- no 13
+abbrev pub NotFull : Stop → Type 0
 NotFull settled = Unit {0}
 NotFull (listFull c) = ⊥
 NotFull (damage c) = Unit {0}
 
--- no 13 ended it
-abbrev pub Never13 : Ending → Type 0
-Never13 finished = Unit {0}
-Never13 (stoppedA stop) = NotFull stop
-Never13 (stoppedB stop) = NotFull stop
+abbrev pub NeverFull : FamilyEnding → Type 0
+NeverFull ended = Unit {0}
+NeverFull (stoppedAt i stop) = NotFull stop
 
-module _ (A B : Switch) where
-  record BothFit (p : Pair) : Type 0 where
-    pub fits-a : Fits (A .size) (p .a)
-    pub fits-b : Fits (B .size) (p .b)
+none-full : (i : ℕ) (stop : Stop) → ((c : ℕ) → stop ≡ listFull c → ⊥) → NeverFull (endingAt i stop)
+none-full i settled h = tt
+none-full i (listFull c) h = h c refl
+none-full i (damage c) h = tt
 
-  record Roomy (r : Exchanged) : Type 0 where
-    pub fit : BothFit (r .pair)
-    pub never : Never13 (r .ending)
+-- ---- the two ways to end: a settling stopped, from a family of which P holds
+pub record Stopped (n : ℕ) (W : ℕ → Switch) (P : Family → Type 0) (r : Ended) : Type 0 where
+  pub switch : ℕ
+  pub before : Family
+  pub stop : Stop
+  pub below : switch < n
+  pub holds : P before
+  pub is : r ≡ settleOne W switch before
+  pub ends : r .ending ≡ stoppedAt switch stop
 
-  hand-both : (p : Pair) → BothFit p → BothFit (handBoth A B p)
-  unfolding handBoth
-  hand-both p f = record { fits-a = calls-fit A _ (p .a) (f .fits-a); fits-b = calls-fit B (handEach (keysOf (p .a .list))) (p .b) (f .fits-b) }
+-- or after some rounds one went through in which no list grew, from a family of which P holds
+pub record Still (n : ℕ) (W : ℕ → Switch) (l : List Way) (P : Family → Type 0) (first : Family) (r : Ended) : Type 0 where
+  pub rounds : ℕ
+  pub before : Family
+  pub reached : roundsAlong n W l rounds first ≡ record { family = before; ending = ended }
+  pub holds : P before
+  pub is : r ≡ roundAlong n W l before
+  pub ends : r .ending ≡ ended
+  pub none-grew : anyGrew n before (r .family) ≡ false
 
-  b-roomy : (s t : Session) (n : ℕ) → Fits (A .size) s → Fits (B .size) t → (stop : Stop) → settleAt B t .stop ≡ stop
-      → Roomy (afterB s (settleAt B t .state) n stop)
-  b-roomy s t n f g settled e = record { fit = record { fits-a = f; fits-b = settle-fits (B .size) (B .has) t g }; never = tt }
-  b-roomy s t n f g (listFull c) e = absurd (never-13 (B .size) (B .has) t g c e)
-  b-roomy s t n f g (damage c) e = record { fit = record { fits-a = f; fits-b = settle-fits (B .size) (B .has) t g }; never = tt }
+abbrev pub Over : ℕ → (ℕ → Switch) → List Way → (Family → Type 0) → Family → Ended → Type 0
+Over n W l P first r = Stopped n W P r ⊎ Still n W l P first r
 
-  a-roomy : (s t : Session) (n : ℕ) → Fits (A .size) s → Fits (B .size) t → (stop : Stop) → settleAt A s .stop ≡ stop
-      → Roomy (afterA B (settleAt A s .state) t n stop)
-  a-roomy s t n f g settled e = b-roomy (settleAt A s .state) t n (settle-fits (A .size) (A .has) s f) g (settleAt B t .stop) refl
-  a-roomy s t n f g (listFull c) e = absurd (never-13 (A .size) (A .has) s f c e)
-  a-roomy s t n f g (damage c) e = record { fit = record { fits-a = settle-fits (A .size) (A .has) s f; fits-b = g }; never = tt }
+-- every session has room
+abbrev pub AllFit : ℕ → (ℕ → Switch) → Family → Type 0
+AllFit n W p = (i : ℕ) → i < n → Fits (W i .size) (p .session i)
 
-  settle-roomy : (p : Pair) → BothFit p → Roomy (settleBoth A B p)
-  unfolding settleBoth
-  settle-roomy p f = a-roomy (p .a) (p .b) (p .twelves) (f .fits-a) (f .fits-b) (settleAt A (p .a) .stop) refl
+abbrev pub lengths : ℕ → Family → ℕ
+lengths n p = sumUpto n (λ i. length (p .session i .list))
 
-  on-roomy : (m : ℕ) (p : Pair) → ((q : Pair) → BothFit q → Roomy (rounds A B m q)) → (r : Exchanged) → Roomy r → (end : Ending)
-      → Roomy (goOn (rounds A B m) p r end)
-  unfolding goOn
-  on-roomy m p ih r f finished = elim (split (grew p (r .pair))) [ inl g ↦ rw g (ih (r .pair) (f .fit)) | inr g ↦ rw g f ]
-  on-roomy m p ih r f (stoppedA s) = f
-  on-roomy m p ih r f (stoppedB s) = f
+module _ (n : ℕ) (W : ℕ → Switch) where
+  pub hand-fit : (v : Way) (p : Family) → AllFit n W p → AllFit n W (handTo W v p)
+  unfolding handTo
+  hand-fit v p f = put-all (v .to) _ (p .session) (λ j s. j < n → Fits (W j .size) s)
+      (λ b. calls-fit (W (v .to)) (handEach (keysOf (p .session (v .from) .list))) (p .session (v .to)) (f (v .to) b)) f
 
-  rounds-roomy : (m : ℕ) (p : Pair) → BothFit p → Roomy (rounds A B m p)
-  unfolding rounds
-  rounds-roomy zero p f = record { fit = f; never = tt }
-  rounds-roomy (suc m) p f =
-      on-roomy m p (λ q g. rounds-roomy m q g) (round A B p) (settle-roomy (handBoth A B p) (hand-both p f)) (round A B p .ending)
+  pub settle-fit : (i : ℕ) (p : Family) → AllFit n W p → AllFit n W (settleOne W i p .family)
+  unfolding settleOne
+  settle-fit i p f = put-all i _ (p .session) (λ j s. j < n → Fits (W j .size) s)
+      (λ b. settle-fits (W i .size) (W i .has) (p .session i) (f i b)) f
 
-  then-roomy : (m : ℕ) (r : Exchanged) → Roomy r → (end : Ending) → Roomy (thenRounds A B m r end)
-  unfolding thenRounds
-  then-roomy m r f finished = rounds-roomy m (r .pair) (f .fit)
-  then-roomy m r f (stoppedA s) = f
-  then-roomy m r f (stoppedB s) = f
+  room-left : (p : Family) → AllFit n W p → lengths n p ≤ roundsRoom n W
+  room-left p f = sum-le n (λ i. length (p .session i .list)) (λ i. 2 * W i .size) (λ i b. fits-length (W i .size) (p .session i) (f i b))
 
-  -- Theorem: no exchange of sessions with room is ended by a 13
-  pub exchange-never-13 : (p : Pair) → Fits (A .size) (p .a) → Fits (B .size) (p .b) → Never13 (exchange A B p .ending)
-  unfolding exchange
-  exchange-never-13 p f g =
-      let both = settle-roomy p (record { fits-a = f; fits-b = g }) in
-      then-roomy (2 * A .size + 2 * B .size + 1) (settleBoth A B p) both (settleBoth A B p .ending) .never
+  -- a round in which a list grew leaves less room
+  longer : (p q : Family) → Onward p q → anyGrew n p q ≡ true → lengths n p < lengths n q
+  unfolding anyGrew
+  longer p q o y =
+      let a : ℕ → ℕ = λ i. length (p .session i .list) in
+      let b : ℕ → ℕ = λ i. length (q .session i .list) in
+      let r = any-some n (λ i. ltb (a i) (b i)) y in
+      sum-lt n a b (λ i _. omega (arith, grown-length (p .session i) (q .session i) (o .grown i)))
+      (r .0) (r .1) (ltb-true (a (r .0)) (b (r .0)) (r .2))
+
+  -- ---- with what hand-overs and settlings keep
+  module _ (P : Family → Type 0) (fits : (p : Family) → P p → AllFit n W p)
+      (settle-kept : (i : ℕ) (p : Family) → i < n → P p → P (settleOne W i p .family)) where
+    upto-over : (m : ℕ) → m ≤ n → (p : Family) → P p → (settleUpto W m p .ending ≡ ended) ⊎ Stopped n W P (settleUpto W m p)
+    unfolding settleUpto settleOne
+    upto-over zero b p h = inl refl
+    upto-over (suc m) b p h =
+        let r = settleUpto W m p in
+        let q = r .family in
+        elim (upto-over m (omega arith) p h) [
+          | inr s ↦ inr (subst (Stopped n W P) (sym (then-stopped (settleOne W m) r (r .ending) (s .switch) (s .stop) (s .ends))) s)
+          | inl e ↦ (let z = then-ended (settleOne W m) r (r .ending) e in elim (ending-cases m (settleAt (W m) (q .session m) .stop)) [
+            | inl f ↦ inl (ap (λ t. t .ending) z ∙ f)
+            | inr f ↦ inr (record {
+              switch = m;
+              before = q;
+              stop = f .0;
+              below = omega arith;
+              holds = upto-keeps n W P settle-kept m (omega arith) p h;
+              is = z;
+              ends = ap (λ t. t .ending) z ∙ f .1;
+            })
+          ])
+        ]
+
+    module _ (l : List Way) (hand-kept : (v : Way) (p : Family) → leads l (v .from) (v .to) ≡ true → P p → P (handTo W v p)) where
+      abbrev OverFrom : Family → Ended → Type 0
+      OverFrom = Over n W l P
+
+      -- a round more before them
+      over-later : (p q : Family) (r : Ended) → ((m : ℕ) → roundsAlong n W l (suc m) p ≡ roundsAlong n W l m q) → OverFrom q r → OverFrom p r
+      over-later p q r step (inl s) = inl s
+      over-later p q r step (inr s) = inr (record {
+        rounds = suc (s .rounds);
+        before = s .before;
+        reached = step (s .rounds) ∙ s .reached;
+        holds = s .holds;
+        is = s .is;
+        ends = s .ends;
+        none-grew = s .none-grew;
+      })
+
+      rounds-over : (m : ℕ) (p : Family) → P p → roundsRoom n W < m + lengths n p → OverFrom p (roundsAlong n W l m p)
+      unfolding roundsAlong
+      rounds-over zero p h f = absurd (omega (arith, room-left p (fits p h)))
+      rounds-over (suc m) p h f =
+          let r = roundAlong n W l p in
+          let on : ℕ → Family → Ended = λ t q. cond (anyGrew n p q) (roundsAlong n W l t q) r in
+          elim (upto-over n (le-refl n) (handAlong W l p) (along-keeps n W P settle-kept l hand-kept p h)) [
+            | inr s ↦ subst (OverFrom p) (sym (then-stopped (on m) r (r .ending) (s .switch) (s .stop) (s .ends))) (inl s)
+            | inl e ↦
+                (let step : (t : ℕ) (b : Bool) → anyGrew n p (r .family) ≡ b
+                → andThen (on t) r (r .ending) ≡ cond b (roundsAlong n W l t (r .family)) r
+                = λ t b y. then-ended (on t) r (r .ending) e ∙ ap (λ c. cond c (roundsAlong n W l t (r .family)) r) y in
+                elim (split (anyGrew n p (r .family))) [
+                  | inl y ↦ subst (OverFrom p) (sym (step m true y)) (over-later p (r .family) (roundsAlong n W l m (r .family))
+                      (λ t. step t true y) (rounds-over m (r .family) (round-keeps n W P settle-kept l hand-kept p h)
+                      (omega (arith, longer p (r .family) (onward-round W n l p) y))))
+                  | inr y ↦ subst (OverFrom p) (sym (step m false y))
+                      (inr (record { rounds = 0; before = p; reached = refl; holds = h; is = refl; ends = e; none-grew = y }))
+                ])
+          ]
+
+      -- Theorem: the exchange ends with a stop, or after a round in which no list grew
+      pub over-keeping : (p : Family) → P p → OverFrom (settleUpto W n p .family) (exchangeAlong n W l p)
+      unfolding exchangeAlong
+      over-keeping p h =
+          let r = settleUpto W n p in
+          let go = roundsAlong n W l (roundsRoom n W + 1) in
+          elim (upto-over n (le-refl n) p h) [
+            | inr s ↦ subst (OverFrom (r .family)) (sym (then-stopped go r (r .ending) (s .switch) (s .stop) (s .ends))) (inl s)
+            | inl e ↦ subst (OverFrom (r .family)) (sym (then-ended go r (r .ending) e))
+                (rounds-over (roundsRoom n W + 1) (r .family) (upto-keeps n W P settle-kept n (le-refl n) p h) (omega arith))
+          ]
+
+  -- ---- any sessions with room
+  module _ (l : List Way) where
+    pub family-over : (p : Family) → AllFit n W p → Over n W l (AllFit n W) (settleUpto W n p .family) (exchangeAlong n W l p)
+    family-over = over-keeping (AllFit n W) (λ p f. f) (λ i p _. settle-fit i p) l (λ v p _. hand-fit v p)
+
+    -- Theorem: any two numbers of rounds that are enough for the room left give the same
+    pub rounds-enough : (m m′ : ℕ) (p : Family) → AllFit n W p → roundsRoom n W < m + lengths n p → roundsRoom n W < m′ + lengths n p
+        → roundsAlong n W l m p ≡ roundsAlong n W l m′ p
+    unfolding roundsAlong
+    rounds-enough zero m′ p f g g′ = absurd (omega (arith, room-left p f))
+    rounds-enough (suc m) zero p f g g′ = absurd (omega (arith, room-left p f))
+    rounds-enough (suc m) (suc m′) p f g g′ =
+        let r = roundAlong n W l p in
+        let fit = round-keeps n W (AllFit n W) (λ i q _. settle-fit i q) l (λ v q _. hand-fit v q) p f in
+        then-same (λ q. cond (anyGrew n p q) (roundsAlong n W l m q) r) (λ q. cond (anyGrew n p q) (roundsAlong n W l m′ q) r) r (r .ending)
+        (elim (split (anyGrew n p (r .family))) [
+          | inr y ↦ rw y
+          | inl y ↦ (let more = longer p (r .family) (onward-round W n l p) y in
+              rw y (rounds-enough m m′ (r .family) fit (omega arith) (omega arith)))
+        ])
+
+    -- Theorem: with more rounds allowed, the exchange is the same
+    pub family-enough : (p : Family) → AllFit n W p → (m : ℕ) → roundsRoom n W < m
+        → andThen (roundsAlong n W l m) (settleUpto W n p) (settleUpto W n p .ending) ≡ exchangeAlong n W l p
+    unfolding exchangeAlong
+    family-enough p f m g =
+        let r = settleUpto W n p in
+        then-same (roundsAlong n W l m) (roundsAlong n W l (roundsRoom n W + 1)) r (r .ending)
+        (rounds-enough m (roundsRoom n W + 1) (r .family) (upto-keeps n W (AllFit n W) (λ i q _. settle-fit i q) n (le-refl n) p f)
+        (omega arith) (omega arith))
+
+    -- Theorem: no 13 ends it
+    pub family-never-13 : (p : Family) → AllFit n W p → NeverFull (exchangeAlong n W l p .ending)
+    unfolding settleOne
+    family-never-13 p f = elim (family-over p f) [
+      | inr s ↦ subst NeverFull (sym (s .ends)) tt
+      | inl s ↦
+          (let w = W (s .switch) in
+          let t = s .before .session (s .switch) in
+          subst NeverFull (sym (ap (λ r. r .ending) (s .is)))
+          (none-full (s .switch) (settleAt w t .stop) (never-13 (w .size) (w .has) t (s .holds (s .switch) (s .below)))))
+    ]

@@ -10,6 +10,7 @@ pub mod Invariant
 pub mod Runs
 pub mod Demands
 pub mod Exchange
+pub mod Family
 pub mod Notes
 pub mod Proper
 pub mod Cases

@@ -7,18 +7,21 @@
 //! | 3 places | `3`, or `0`, the k cells and the kf filter bits |
 //! | 4 encoder | start's number (`-` if not called), each packet's, seal's, then filter, cells and image in hexadecimal (`.` if empty) |
 //! | 5 read | `0` with kf, F, k, q and salt, or the refusal's number and block |
+//! | 6 to 10 | of sessions: see `session_answer` |
 //!
 //! A request that does not fit the protocol gets `length`, `mode` or `op`; a wrong length goes before a wrong mode.
 
-use crate::bytes::hex;
+use crate::bytes::{hex, hex_word};
 use crate::encoder::{self, Flow};
 use crate::flow;
 use crate::hash::fnv1a;
 use crate::image::{self, Header, ReadRefusal};
 use crate::key::{has_ports, is_port_protocol, Key};
+use crate::marked::Marked;
 use crate::memory::{Memory, LAST_MODE, STARTED};
 use crate::refusal::{number_of, Refusal};
 use crate::request::{self, parse_places, parse_read, Request, Run};
+use crate::session_answer;
 
 #[derive(Clone, PartialEq, Eq, Debug)]
 pub struct Answer {
@@ -27,7 +30,7 @@ pub struct Answer {
 }
 
 impl Answer {
-    fn new(line: impl Into<String>, kind: impl Into<String>) -> Self {
+    pub fn new(line: impl Into<String>, kind: impl Into<String>) -> Self {
         Answer { line: line.into(), kinds: vec![kind.into()] }
     }
 }
@@ -40,6 +43,7 @@ pub fn answer(request: &Request) -> Answer {
         request::PLACES => answer_places(payload),
         request::ENCODER => answer_run(payload),
         request::READ => answer_read(payload),
+        request::OPEN..=request::EXCHANGE => session_answer::answer::<Marked>(request),
         _ => Answer::new("op", "op"),
     }
 }
@@ -51,6 +55,11 @@ pub fn call_name(op: u8) -> &'static str {
         request::PLACES => "places",
         request::ENCODER => "encoder",
         request::READ => "read",
+        request::OPEN => "open",
+        request::REPORT => "report",
+        request::SETTLE => "settle",
+        request::HAND_OVER => "hand-over",
+        request::EXCHANGE => "exchange",
         _ => "other",
     }
 }
@@ -125,7 +134,7 @@ fn do_run(run: &Run) -> Answer {
     let sealed = image::seal(run.header, &filter, &cells, &mut image);
     words.push(number_of(&sealed).to_string());
     kinds.push(call_kind("seal", &sealed));
-    words.extend([filter, cells, image].iter().map(|buffer| buffer_word(buffer)));
+    words.extend([filter, cells, image].iter().map(|buffer| hex_word(buffer)));
     Answer { line: words.join(" "), kinds }
 }
 
@@ -141,14 +150,6 @@ fn packet_kind(taken: &Result<Flow, Refusal>) -> String {
         Ok(Flow::New) => "packet ok new".into(),
         Ok(Flow::Old) => "packet ok old".into(),
         Err(refusal) => refused_kind("packet", *refusal),
-    }
-}
-
-fn buffer_word(buffer: &[u8]) -> String {
-    if buffer.is_empty() {
-        ".".into()
-    } else {
-        hex(buffer)
     }
 }
 

@@ -24,3 +24,12 @@ pub fn hex(bytes: &[u8]) -> String {
         text
     })
 }
+
+/// As a word of a line, which `.` stands for where there are none.
+pub fn hex_word(bytes: &[u8]) -> String {
+    if bytes.is_empty() {
+        ".".into()
+    } else {
+        hex(bytes)
+    }
+}

@@ -1,6 +1,7 @@
 //! The kinds of answers that a stream of good length must have met.
 
 use crate::answer::{read_kind, refused_kind};
+use crate::lent::SLICES;
 use crate::refusal::Refusal::{self, *};
 
 const SIZES: [Refusal; 4] = [Kf, F, K, Q];
@@ -38,6 +39,49 @@ pub fn expected_kinds() -> Vec<String> {
     kinds.extend(of_call("seal", &[&SIZES, &MEMORY, &[ImageRoom, CellZero]]));
     kinds.extend(READ_FIRST.iter().map(|&refusal| read_kind(refusal, 0)));
     kinds.extend(READ_LATER.iter().map(|&refusal| read_kind(refusal, 1)));
+    kinds
+}
+
+const NOT_A_SESSION: [Refusal; 8] =
+    [SessionSizes, OverListed, Repeated, KnownZero, OverHanded, OverPeeled, WrongMark, WrongNumber];
+
+const OPENED: [&str; 8] =
+    ["0", "1 block 0", "2 block 0", "2 later block", "3 block 0", "3 later block", "4 later block", "5 block 0"];
+const REPORTED: [&str; 3] = ["0 whole", "0 short", "0 stuck"];
+const SETTLED: [&str; 5] = ["0", "14 PeelListed", "14 PeelEmptyCell", "14 CountZero", "14 CountOver"];
+const HANDED_OVER: [&str; 5] = ["0", "9", "10", "11", "12"];
+const EXCHANGED: [&str; 10] = [
+    "0",
+    "0 with answers 12",
+    "14 at A",
+    "14 at B",
+    "14 with answers 12",
+    "15",
+    "8 at A",
+    "8 at B",
+    "16 at A",
+    "16 at B",
+];
+
+/// All that requests on sessions can answer; 13 alone cannot occur, for the test of 8 rules it out. Each reason for 8
+/// and each slice for 16 occurs in every call as the only one.
+pub fn expected_session_kinds() -> Vec<String> {
+    let calls: [(&str, &[&str]); 5] = [
+        ("open", &OPENED),
+        ("report", &REPORTED),
+        ("settle", &SETTLED),
+        ("hand-over", &HANDED_OVER),
+        ("exchange", &EXCHANGED),
+    ];
+    let mut kinds = Vec::new();
+    for (call, answers) in calls {
+        kinds.extend(answers.iter().map(|answer| format!("{call} {answer}")));
+        kinds.push(format!("{call} length"));
+        kinds.extend(SLICES.map(|slice| refused_kind(call, Room(slice))));
+        if call != "open" {
+            kinds.extend(of_call(call, &[&NOT_A_SESSION]));
+        }
+    }
     kinds
 }
 

@@ -3,16 +3,41 @@
 mod images;
 mod packets;
 mod runs;
+mod sessions;
 
 use crate::layout::KEY_BYTES;
 use crate::random::Random;
-use crate::request::{Request, HASH, KEY, READ};
+use crate::request::{Request, EXCHANGE, HASH, KEY};
 use crate::sizes::Sizes;
 use packets::Traffic;
 
 pub fn requests(seed: u64, count: usize) -> Vec<Request> {
     let mut generator = Generator::new(seed);
     (0..count).map(|number| generator.request(number)).collect()
+}
+
+/// Of requests 6 to 10.
+/// Inputs of the printing program: mostly a slot and an image, now and then one that is cut, empty or too long.
+pub fn printing_inputs(seed: u64, count: usize) -> Vec<Vec<u8>> {
+    let random = &mut Random::new(seed);
+    (0..count).map(|number| printing_input(random, number)).collect()
+}
+
+fn printing_input(random: &mut Random, number: usize) -> Vec<u8> {
+    let (slot, image) = sessions::opens::printable(random, number);
+    let mut input = [&slot.to_be_bytes()[..], &image].concat();
+    match number % 16 {
+        3 => input.truncate(random.below(6)),
+        7 => input.truncate(random.below(input.len() + 1)),
+        11 => input.extend(vec![0; random.pick(&[1, 4, 511, 512, 40_960])]),
+        _ => {}
+    }
+    input
+}
+
+pub fn session_requests(seed: u64, count: usize) -> Vec<Request> {
+    let random = &mut Random::new(seed);
+    (0..count).map(|number| sessions::request(random, number)).collect()
 }
 
 /// Each op counts its turns and goes through its faults by them, so that a stream of moderate length misses none.
@@ -85,7 +110,7 @@ fn places_request(random: &mut Random, turn: usize) -> Request {
 }
 
 fn other_request(random: &mut Random) -> Request {
-    let op = if random.once_in(3) { 0 } else { READ + 1 + random.below(250) as u8 };
+    let op = if random.once_in(3) { 0 } else { EXCHANGE + 1 + random.below(245) as u8 };
     let length = random.between(0, 30);
     Request::new(op, random.bytes(length))
 }

@@ -1,9 +1,10 @@
 //! An independent program for document 01: hashing, encoder, image, session, exchange and printing. It answers the
-//! stream of a trial, makes such streams, and compares a trial's lines with its own.
+//! streams of the programs under test, makes such streams, and compares a program's lines with its own.
 
 mod answer;
 mod bytes;
 mod compare;
+mod compare_printing;
 mod counters;
 mod edges;
 mod encoder;
@@ -11,6 +12,8 @@ mod engine;
 mod exchange;
 mod expected;
 mod flow;
+mod flowsets;
+mod fresh;
 mod generate;
 mod hash;
 mod image;
@@ -18,9 +21,12 @@ mod index;
 mod ipv4;
 mod key;
 mod layout;
+mod lent;
+mod lent_session;
 mod marked;
 mod memory;
 mod places;
+mod plot;
 mod print;
 mod random;
 mod refusal;
@@ -29,28 +35,42 @@ mod request;
 mod rescanning;
 mod selftest;
 mod session;
+mod session_answer;
+mod session_request;
 mod session_tests;
 mod settle;
+mod show;
 mod shrink;
 mod sizes;
 mod sizing;
 mod table;
 mod trial;
 mod words;
+mod working;
 
 use std::io::{self, Read, Write};
 use std::process::ExitCode;
 
-use request::Request;
+use expected::{expected_kinds, expected_session_kinds};
+use request::{Request, EXCHANGE};
 
 const USAGE: &str = "usage: independent answer < REQUESTS
        independent requests SEED COUNT
        independent edges
        independent compare TRIAL SEED COUNT
        independent compare TRIAL edges
+       independent session-requests SEED COUNT
+       independent compare-sessions REHEARSAL SEED COUNT [single]
+       independent compare-printing REPORT SEED COUNT
+       independent printing-input SEED NUMBER
+       independent store-printing FOLDER
        independent print < SLOT_AND_IMAGE
        independent sizing SEED RUNS
+       independent sizing-plot SEED RUNS
        independent selftest";
+
+/// From so many requests on sessions on, no answer may be missing.
+const LONG_ENOUGH: usize = 400;
 
 fn main() -> ExitCode {
     let arguments: Vec<String> = std::env::args().skip(1).collect();
@@ -73,19 +93,50 @@ fn run(words: &[&str]) -> io::Result<bool> {
             print_stream(&requests).map(|()| true)
         }
         ["edges"] => print_stream(&edges::requests()).map(|()| true),
-        ["compare", trial, "edges"] => print_comparison(trial, "edges", &edges::requests()),
+        ["session-requests", seed, count] => {
+            let requests = generate::session_requests(number(seed)?, number(count)? as usize);
+            print_stream(&requests).map(|()| true)
+        }
+        ["compare", trial, "edges"] => print_comparison(trial, "edges", &edges::requests(), &expected_kinds()),
         ["compare", trial, seed, count] => {
             let requests = generate::requests(number(seed)?, number(count)? as usize);
-            print_comparison(trial, &format!("seed {seed} count {count}"), &requests)
+            print_comparison(trial, &format!("seed {seed} count {count}"), &requests, &expected_kinds())
+        }
+        ["compare-sessions", program, seed, count] => compare_sessions(program, seed, count, true),
+        ["compare-sessions", program, seed, count, "single"] => compare_sessions(program, seed, count, false),
+        ["compare-printing", program, seed, count] => {
+            let inputs = generate::printing_inputs(number(seed)?, number(count)? as usize);
+            compare_printing::compare(program, number(seed)?, &inputs, "target/tests/printing-differs")
+        }
+        ["store-printing", folder] => compare_printing::store(folder, &generate::printing_inputs(1, 400)).map(|()| true),
+        ["printing-input", seed, which] => {
+            let which = number(which)? as usize;
+            let inputs = generate::printing_inputs(number(seed)?, which + 1);
+            io::stdout().lock().write_all(&inputs[which]).map(|()| true)
         }
         ["print"] => print_flows().map(|()| true),
         ["sizing", seed, runs] => {
             let text = sizing::sizing(number(seed)?, number(runs)?.max(1) as usize);
             io::stdout().lock().write_all(text.as_bytes()).map(|()| true)
         }
+        ["sizing-plot", seed, runs] => {
+            let svg = plot::decode_plot(number(seed)?, number(runs)?.max(1) as usize);
+            io::stdout().lock().write_all(svg.as_bytes()).map(|()| true)
+        }
         ["selftest"] => Ok(selftest::selftest()),
         _ => Err(io::Error::other(USAGE)),
     }
+}
+
+/// Requests on sessions; without those on two of them where the program under test has no exchange.
+fn compare_sessions(program: &str, seed: &str, count: &str, exchanges: bool) -> io::Result<bool> {
+    let mut requests = generate::session_requests(number(seed)?, number(count)? as usize);
+    let mut expected = if requests.len() < LONG_ENOUGH { Vec::new() } else { expected_session_kinds() };
+    if !exchanges {
+        requests.retain(|request| request.op != EXCHANGE);
+        expected.retain(|kind| !kind.starts_with("exchange "));
+    }
+    print_comparison(program, &format!("sessions, seed {seed} count {count}"), &requests, &expected)
 }
 
 fn number(word: &str) -> io::Result<u64> {
@@ -96,8 +147,8 @@ fn print_stream(requests: &[Request]) -> io::Result<()> {
     request::write_stream(requests, &mut io::stdout().lock())
 }
 
-fn print_comparison(trial: &str, source: &str, requests: &[Request]) -> io::Result<bool> {
-    let report = compare::compare(trial, source, requests)?;
+fn print_comparison(trial: &str, source: &str, requests: &[Request], expected: &[String]) -> io::Result<bool> {
+    let report = compare::compare(trial, source, requests, expected)?;
     io::stdout().lock().write_all(report.text.as_bytes())?;
     Ok(report.good)
 }

@@ -33,7 +33,7 @@ impl Noise {
         (self.0 >> 24) as u8
     }
 
-    fn fill(&mut self, length: usize) -> Vec<u8> {
+    pub fn fill(&mut self, length: usize) -> Vec<u8> {
         (0..length).map(|_| self.byte()).collect()
     }
 }

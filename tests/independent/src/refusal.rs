@@ -1,5 +1,6 @@
 //! Every reason to refuse. Reasons are finer than 01's numbers, so that a run can tell which of them it has met.
 
+use crate::lent::Slice;
 use Refusal::*;
 
 #[derive(Clone, Copy, PartialEq, Eq, Debug)]
@@ -64,6 +65,8 @@ pub enum Refusal {
     ImageRoom,
     MarksRoom,
     NumbersRoom,
+    /// In a request, where each slice has its length.
+    Room(Slice),
 }
 
 impl Refusal {
@@ -85,7 +88,7 @@ impl Refusal {
             ListFull => 13,
             PeelListed | PeelEmptyCell | CountZero | CountOver => 14,
             OtherSlot => 15,
-            FilterRoom | CellsRoom | ImageRoom | MarksRoom | NumbersRoom => 16,
+            FilterRoom | CellsRoom | ImageRoom | MarksRoom | NumbersRoom | Room(_) => 16,
         }
     }
 }

@@ -1,4 +1,4 @@
-//! The requests of a trial's stream. All numbers are high byte first. A request is op (1 byte), length (3) and payload:
+//! The requests of a stream. All numbers are high byte first. A request is op (1 byte), length (3) and payload:
 //!
 //! | op | payload |
 //! |---|---|
@@ -7,6 +7,7 @@
 //! | 3 places | kf, F, k, q (1 each), salt 4, key 13 |
 //! | 4 encoder | kf, F, k, q (1 each), salt 4, slot 4, lengths of filter, cells and image (2 each), mode 1, seed 4, then packets, each as length 2 and bytes |
 //! | 5 read | wanted slot 4, image |
+//! | 6 to 10 | on sessions: see `session_request` |
 
 use std::io::{self, Write};
 
@@ -21,6 +22,11 @@ pub const KEY: u8 = 2;
 pub const PLACES: u8 = 3;
 pub const ENCODER: u8 = 4;
 pub const READ: u8 = 5;
+pub const OPEN: u8 = 6;
+pub const REPORT: u8 = 7;
+pub const SETTLE: u8 = 8;
+pub const HAND_OVER: u8 = 9;
+pub const EXCHANGE: u8 = 10;
 
 /// The longest buffers that a trial must hold: a little more than 01's longest, so that too long can be tried.
 pub const MAX_FILTER: usize = 8_192;

@@ -3,11 +3,12 @@
 mod cases;
 mod clean;
 mod exchanges;
-mod flowsets;
+mod lines;
 mod pair;
 mod peels;
 mod printing;
 mod refused;
+mod requests;
 mod sequences;
 mod tiny;
 
@@ -32,6 +33,14 @@ pub fn run(tally: &mut Tally) {
         refused::rooms,
         refused::order_in_exchange,
         printing::lines,
+        lines::by_hand,
+        lines::damaged_by_hand,
+        lines::carried,
+        lines::lengths,
+        lines::listed,
+        requests::chains,
+        requests::shrinking,
+        requests::generated,
     ] {
         group(tally);
     }

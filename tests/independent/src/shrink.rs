@@ -1,7 +1,10 @@
 //! Finding a short request that still shows a difference.
 
 use crate::layout::BLOCK_BYTES;
-use crate::request::{Request, Run, ENCODER, READ, READ_HEAD};
+use crate::request::{Request, Run, ENCODER, EXCHANGE, OPEN, READ, READ_HEAD};
+
+/// For requests on sessions: each try runs the program anew.
+const MOST_TRIES: usize = 600;
 
 /// Drops pieces as long as the lines still differ: packets and then their bytes, an image's blocks, else single bytes.
 pub fn shrink(request: &Request, mut differs: impl FnMut(&Request) -> bool) -> Request {
@@ -9,6 +12,9 @@ pub fn shrink(request: &Request, mut differs: impl FnMut(&Request) -> bool) -> R
         if let Some(run) = Run::parse(&request.payload) {
             return shrink_run(run, &mut differs);
         }
+    }
+    if (OPEN..=EXCHANGE).contains(&request.op) {
+        return zero_in_rounds(request, &mut differs);
     }
     let (head, pieces) = pieces_of(request);
     let rebuilt = |pieces: &[&[u8]]| Request::new(request.op, [head, &pieces.concat()].concat());
@@ -28,6 +34,33 @@ fn shrink_run(mut run: Run, differs: &mut impl FnMut(&Request) -> bool) -> Reque
     }
     run.packets = packets;
     run.to_request()
+}
+
+/// A session without some of its bytes only ever has a wrong length, so they become 0 instead: runs of them, from the
+/// whole payload down to single ones.
+fn zero_in_rounds(request: &Request, differs: &mut impl FnMut(&Request) -> bool) -> Request {
+    let mut shortest = request.clone();
+    let mut tries = MOST_TRIES;
+    let mut width = request.payload.len();
+    while width > 0 {
+        for at in (0..request.payload.len()).step_by(width) {
+            let mut candidate = shortest.clone();
+            let end = (at + width).min(candidate.payload.len());
+            candidate.payload[at..end].fill(0);
+            if candidate == shortest {
+                continue;
+            }
+            if tries == 0 {
+                return shortest;
+            }
+            tries -= 1;
+            if differs(&candidate) {
+                shortest = candidate;
+            }
+        }
+        width /= 2;
+    }
+    shortest
 }
 
 /// What must stay, and what may go. A torn block only ever makes a wrong length, so whole blocks go.

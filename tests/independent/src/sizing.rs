@@ -26,6 +26,13 @@ pub fn sizing(seed: u64, runs: usize) -> String {
         let sizes = Sizes { kf: 7, f: 16, k, q };
         PERCENTS.iter().for_each(|&percent| text += &decode_line(random, sizes, percent, runs));
     }
+    text += "\nkeys that differ little, in tables of load 60%\nkeys                              k  q  flows  whole%\n";
+    for (name, keys) in STRUCTURED {
+        for (k, q) in [(3, 1), (3, 4), (3, 16)] {
+            let sizes = Sizes { kf: 7, f: 16, k, q };
+            text += &structured_line(random, name, keys, sizes, runs);
+        }
+    }
     text += "\nflows   F  kf  flowsets with a missed flow%\n";
     for flows in FILTER_FLOWS {
         FILTERS.iter().for_each(|&(f, kf)| text += &filter_line(random, flows, f, kf, runs));
@@ -53,6 +60,41 @@ fn decode_line(random: &mut Random, sizes: Sizes, percent: usize, runs: usize) -
     let (n, k, q) = (sizes.cells(), sizes.k, sizes.q);
     let (whole, shared) = (percent_of(whole), percent_of(shared));
     format!("{k} {q:2} {n:5} {percent:4}% {flows:6} {whole:7.1} {shared:15.1} {per_flow:15.0}\n")
+}
+
+/// Numbered packets of a kind of traffic.
+type Keys = fn(u32) -> Ipv4;
+
+const STRUCTURED: [(&str, Keys); 4] = [
+    ("consecutive source addresses", |n| Ipv4::with_ports(17, 0xc0a8_0a00 + n, 0xc0a8_0a0a, (20_202, 50_000))),
+    ("consecutive destination ports", |n| Ipv4::with_ports(17, 0xc0a8_0a15, 0xc0a8_0a0a, (20_202, 50_000 + n as u16))),
+    ("addresses and ports together", |n| Ipv4::with_ports(17, 0xc0a8_0a00 + n, 0xc0a8_0a0a, (20_202, 50_000 + n as u16))),
+    ("pairs that differ in protocol", |n| {
+        Ipv4::with_ports([6, 17][n as usize % 2], 0xc0a8_0a00 + n / 2, 0xc0a8_0a0a, (20_202, 50_000))
+    }),
+];
+
+fn structured_line(random: &mut Random, name: &str, keys: Keys, sizes: Sizes, runs: usize) -> String {
+    let flows = sizes.cells() * 60 / 100;
+    let packets: Vec<Vec<u8>> = (0..flows as u32).map(|number| keys(number).bytes()).collect();
+    let settled_whole = |random: &mut Random| {
+        let mut session = open(&encode(random, sizes, &packets).0);
+        session.settle().is_ok() && is_whole(&session)
+    };
+    let whole = (0..runs).filter(|_| settled_whole(random)).count();
+    let (k, q, whole) = (sizes.k, sizes.q, 100.0 * whole as f64 / runs as f64);
+    format!("{name:32} {k:2} {q:2} {flows:6} {whole:7.1}\n")
+}
+
+/// The share of flowsets that settle whole, against load in per cent of the cells.
+pub fn decode_rate(random: &mut Random, sizes: Sizes, percent: usize, runs: usize) -> f64 {
+    let flows = sizes.cells() * percent / 100;
+    let settled_whole = |random: &mut Random| {
+        let packets = random_packets(random, flows);
+        let mut session = open(&encode(random, sizes, &packets).0);
+        session.settle().is_ok() && is_whole(&session)
+    };
+    (0..runs).filter(|_| settled_whole(random)).count() as f64 / runs as f64
 }
 
 fn filter_line(random: &mut Random, flows: usize, f: u8, kf: u8, runs: usize) -> String {

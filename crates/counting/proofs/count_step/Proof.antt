@@ -3,10 +3,10 @@ use mathlib.Core.List.{List}
 use Prim.Native.Nat.{ℕ, _+_, _*_, _-_, _<_, _≤_}
 use native.Mathlib.Omega.{arith}
 use lib.ListN.{length, getD, take, drop}
+use Rattle.hash.proofs.Apart.{places-within}
 use Rattle.list.specs.Records.{Records, records, keyAt}
 use Rattle.list.proofs.Laws.{key-part, key-inside, key-small}
 use Rattle.counting.specs.Book.{Book, book, toldEach}
-use Rattle.counting.proofs.Book.{places-within}
 use Rattle.counting.proofs.Answers.{count-quiet, count-far, count-none, count-less, count-told}
 use borrow.Author.Needs.{needs}
 use Rattle.counting.proofs.count_step.Statement.{statement}

@@ -85,6 +85,20 @@ const FAULTS: [Fault; 37] = [
     WantedSlot,
 ];
 
+/// Each of 1 to 5, in block 0 and in a later one.
+const NUMBERED: [Fault; 10] = [
+    Empty,
+    CutBlocks,
+    Check(First),
+    Check(Later),
+    Field(First, KIND),
+    Field(Later, NUMBER.start),
+    MixedSalt,
+    MixedSlot,
+    WantedSlot,
+    CellZero,
+];
+
 /// Of four images, two have one fault, each in its turn, one has a pair of faults whose order matters, and one has none
 /// to three at random.
 pub fn request(random: &mut Random, turn: usize) -> Request {
@@ -93,7 +107,10 @@ pub fn request(random: &mut Random, turn: usize) -> Request {
     }
     let mut sample = Sample::new(random);
     match turn % 4 {
-        1 => (0..random.between(0, 3)).for_each(|_| sample.spoil(random.pick(&FAULTS), random)),
+        1 => {
+            let faults = random.between(0, 3);
+            sample.spoil_at_random(random, faults);
+        }
         3 => pair(random).into_iter().for_each(|fault| sample.spoil(fault, random)),
         _ => sample.spoil(FAULTS[turn / 2 % FAULTS.len()], random),
     }
@@ -115,10 +132,10 @@ fn wrong_length(random: &mut Random) -> Request {
     Request::new(READ, random.bytes(length))
 }
 
-struct Sample {
-    header: Header,
-    wanted_slot: u32,
-    image: Vec<u8>,
+pub struct Sample {
+    pub header: Header,
+    pub wanted_slot: u32,
+    pub image: Vec<u8>,
     /// Faults of later blocks mostly fall on this one, so that several meet in one block.
     later: usize,
 }
@@ -126,8 +143,24 @@ struct Sample {
 impl Sample {
     fn new(random: &mut Random) -> Self {
         let header = Header { sizes: run_sizes(random), salt: random.u32(), slot: random.u32() };
+        let image = sealed(header, random);
+        Sample::of(header, image, random)
+    }
+
+    pub fn of(header: Header, image: Vec<u8>, random: &mut Random) -> Self {
         let later = random.between(1, header.sizes.blocks() - 1);
-        Sample { header, wanted_slot: header.slot, image: sealed(header, random), later }
+        Sample { header, wanted_slot: header.slot, image, later }
+    }
+
+    /// One fault, each of the numbers 1 to 5 in its turn.
+    pub fn spoil_numbered(&mut self, random: &mut Random, turn: usize) {
+        self.spoil(NUMBERED[turn % NUMBERED.len()], random);
+    }
+
+    /// So many faults of any kind.
+    pub fn spoil_at_random(&mut self, random: &mut Random, faults: usize) {
+        (0..faults).for_each(|_| self.spoil(random.pick(&FAULTS), random));
+        self.image.truncate(MAX_IMAGE);
     }
 
     fn spoil(&mut self, fault: Fault, random: &mut Random) {
@@ -254,7 +287,7 @@ fn flip(bytes: &mut [u8], random: &mut Random) {
 }
 
 /// Any place, often the first or the last, where a loop goes wrong first.
-fn some_place(places: usize, random: &mut Random) -> usize {
+pub fn some_place(places: usize, random: &mut Random) -> usize {
     let any = random.below(places);
     random.pick(&[0, places - 1, any, any])
 }

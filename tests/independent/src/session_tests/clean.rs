@@ -4,6 +4,7 @@ use std::collections::BTreeMap;
 
 use crate::counters::key_of;
 use crate::flow;
+use crate::flowsets::{encode, flows_at, good_filter, random_flow, random_flows, random_header, shuffle, Flowset};
 use crate::image::Header;
 use crate::key::KeyBytes;
 use crate::marked::Marked;
@@ -15,7 +16,6 @@ use crate::session::Session;
 use crate::sizes::Sizes;
 use crate::table::{Cell, Record};
 
-use super::flowsets::{encode, flows_at, good_filter, random_flow, random_flows, random_header, shuffle, Flowset};
 use super::pair::{meet_hand_over, meet_settle, meet_state};
 
 pub fn clean_sessions(tally: &mut Tally) {

@@ -4,6 +4,7 @@ use std::collections::BTreeSet;
 
 use crate::exchange::{exchange, Exchanged, Switch};
 use crate::flow;
+use crate::flowsets::{damage, encode, flows_at, good_filter, random_flows, random_header, Flowset};
 use crate::image::Header;
 use crate::ipv4::Ipv4;
 use crate::key::KeyBytes;
@@ -14,7 +15,6 @@ use crate::session::Session;
 use crate::sizes::Sizes;
 
 use super::clean::{known, tell_truth};
-use super::flowsets::{damage, encode, flows_at, good_filter, random_flows, random_header, Flowset};
 use super::pair::meet_state;
 use super::sequences::Both;
 

@@ -2,15 +2,15 @@
 
 use crate::answer::refused_kind;
 use crate::engine::{Damage, Engine};
+use crate::fresh::Fresh;
 use crate::key::KeyBytes;
-use crate::marked::{Marked, Unknown};
+use crate::marked::Marked;
 use crate::places::Placement;
 use crate::refusal::Refusal;
 use crate::report::Report;
 use crate::rescanning::Rescanning;
 use crate::selftest::Tally;
 use crate::table::Cell;
-use crate::words::Words;
 
 pub struct Pair<'p, P> {
     placement: &'p P,
@@ -60,14 +60,9 @@ fn settle<E: Engine, P: Placement>(engine: &mut E, placement: &P) -> Result<(), 
 /// Cells and list are equal, and the marks and numbers are what a fresh look at them gives.
 pub fn agree<P: Placement>(tally: &mut Tally, name: &str, placement: &P, marked: &Marked, plain: &Rescanning) {
     tally.holds_in(name, "cells and list", marked.table == plain.table);
-    let mut marks = Words::with_bits(placement.cells());
-    plain.pure_cells(placement).for_each(|cell| marks.put(cell, true));
-    tally.holds_in(name, "marks", marked.marks == marks);
-    let unknown = plain.unknown_flows(placement).into_iter().map(|flows| Unknown {
-        number: flows.len() as u16,
-        positions: flows.iter().fold(0, |mixed, &position| mixed ^ position as u16),
-    });
-    tally.holds_in(name, "numbers", unknown.eq(marked.unknown.iter().copied()));
+    let fresh = Fresh::look(placement, plain.clone());
+    tally.holds_in(name, "marks", marked.marks == fresh.marks);
+    tally.holds_in(name, "numbers", marked.unknown == fresh.unknown);
 }
 
 pub fn meet_hand_over(tally: &mut Tally, answer: Result<(), Refusal>) {

@@ -6,8 +6,9 @@ use crate::image::Header;
 use crate::ipv4::Ipv4;
 use crate::layout::FLOW_COUNT;
 use crate::print::print;
-use crate::selftest::{tcp, Encoder, Tally, MIDDLE};
+use crate::selftest::{tcp, Tally, MIDDLE};
 use crate::sizes::Sizes;
+use crate::working::Encoder;
 
 fn printed(encoder: &Encoder) -> String {
     print(&[&7u32.to_be_bytes()[..], &encoder.sealed()].concat())

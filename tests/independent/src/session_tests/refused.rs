@@ -2,16 +2,17 @@
 
 use crate::answer::refused_kind;
 use crate::exchange::exchange;
+use crate::flowsets::{encode, flows_at, good_filter, random_flows};
 use crate::image::Header;
 use crate::marked::{Marked, Unknown};
 use crate::random::Random;
 use crate::refusal::Refusal::{self, *};
-use crate::selftest::{Encoder, Tally, MIDDLE};
+use crate::selftest::{Tally, MIDDLE};
 use crate::session::Session;
 use crate::sizes::Sizes;
+use crate::working::Encoder;
 
 use super::cases::key;
-use super::flowsets::{encode, flows_at, good_filter, random_flows};
 use super::peels::full_records;
 
 /// N of `MIDDLE`: the last of its three mark words has 48 bits past it.

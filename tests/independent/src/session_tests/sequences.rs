@@ -1,6 +1,7 @@
 //! Random calls on whole sessions, opened from sealed images, clean and damaged, with both engines.
 
 use crate::counters::key_of;
+use crate::flowsets::{damage, encode, flows_at, random_flow, random_flows, random_header, Flowset};
 use crate::image::Header;
 use crate::key::KeyBytes;
 use crate::marked::Marked;
@@ -11,7 +12,6 @@ use crate::rescanning::Rescanning;
 use crate::selftest::Tally;
 use crate::session::Session;
 
-use super::flowsets::{damage, encode, flows_at, random_flow, random_flows, random_header, Flowset};
 use super::pair::{agree, meet_hand_over, meet_settle, meet_state};
 
 const SESSIONS: u64 = 2_000;

@@ -9,8 +9,8 @@ use crate::ipv4::Ipv4;
 use crate::key::KeyBytes;
 use crate::layout::{FLOW_COUNT, KEY_BYTES, PACKET_COUNT};
 use crate::random::Random;
-use crate::selftest::Encoder;
 use crate::sizes::Sizes;
+use crate::working::Encoder;
 
 pub struct Flowset {
     pub encoder: Encoder,
@@ -78,13 +78,18 @@ pub fn random_flow(random: &mut Random) -> Ipv4 {
 }
 
 pub fn encode(random: &mut Random, header: Header, flows: &[Ipv4]) -> Flowset {
+    encode_into(random, Encoder::new(header), flows)
+}
+
+/// Into memory that need not be empty.
+pub fn encode_into(random: &mut Random, encoder: Encoder, flows: &[Ipv4]) -> Flowset {
     let mut order: Vec<usize> = Vec::new();
     for number in 0..flows.len() {
         let packets = if random.once_in(10) { random.between(5, 40) } else { random.between(1, 4) };
         order.extend(std::iter::repeat_n(number, packets));
     }
     shuffle(random, &mut order);
-    let mut flowset = Flowset { encoder: Encoder::new(header), packets: BTreeMap::new(), clean: true };
+    let mut flowset = Flowset { encoder, packets: BTreeMap::new(), clean: true };
     for number in order {
         let first = take(&mut flowset, &flows[number]);
         flowset.clean &= first;

@@ -1,0 +1,162 @@
+-- Each call of 01 on a session that passes the test is the theory's call on what is seen of it, and leaves a session that passes.
+use mathlib.Core.Path.{_≡_, refl, sym, ap, ap₂, subst, _∙_}
+use mathlib.Core.Bool.{true}
+use mathlib.Core.List.{List, [], _∷_}
+use Prim.Native.Nat.{ℕ, _+_}
+use native.Mathlib.Omega.{arith}
+use lib.ListN.{length}
+use Rattle.layout.specs.declared.Layout.{Layout}
+use Rattle.layout.specs.declared.Sizes.{Sizes}
+use Rattle.layout.proofs.Ranges.{range-test}
+use Rattle.peeling.specs.Peel.{listedAt}
+use Rattle.peeling.specs.declared.Stop.{Stop}
+use Rattle.peeling.specs.declared.Stop.the-variants as stop
+use Rattle.room.specs.declared.Session.{Session}
+use Rattle.room.specs.Memory.{Memory, memory, roomFits}
+use Rattle.room.specs.Test.{tested}
+use Rattle.room.proofs.Laws.{rooms-asked, tested-passed}
+use Rattle.settling.specs.Settle as settling
+use Rattle.handing.specs.declared.Handed.{Handed}
+use Rattle.handing.specs.declared.Handed.the-variants as handed
+use Rattle.handing.specs.Hand as handing
+use Rattle.handing.specs.Hand.{takenBy}
+use Rattle.session.specs.Calls.{bitsOf, handingTo, handAnswer, handLeaves, handOver, handOverNumber, settlingTo, settleLeaves, settleOf, settleNumber, settleAnswer}
+use Rattle.session.specs.declared.HandOver.the-variants as over
+use Rattle.session.specs.declared.Settled.the-variants as answers
+use Rattle.theory.specs.Flow.{Key}
+use Rattle.theory.specs.Settle.{stopNumber}
+use Rattle.theory.specs.HandOver as theory
+use Rattle.link.specs.Answers.{stopOf}
+use Rattle.demands.specs.Calls.{Live, live, withListed, afterHand, afterSettle, callOn, callsOn, KeysFit, viewed, switchAt, Passing}
+use Rattle.demands.proofs.Lists.{Shows, settle-shows, settle-stops, hand-shows, hand-number}
+
+-- what a call leaves: the theory's session is seen in it, it passes the test, and the switch is the same
+pub record Follows (l : Layout) (v : Live) (s : Rattle.theory.specs.Session.Session) (u : Live) : Type 0 where
+  pub seen-as : viewed l u ≡ s
+  pub passing : Passing l u
+  pub same-switch : switchAt l u ≡ switchAt l v
+
+module _ (l : Layout) (v : Live) (p : Passing l v) where
+  abbrev s : Session
+  s = v .numbers
+
+  abbrev m : Memory
+  m = v .room
+
+  abbrev z : Sizes
+  z = s .sizes
+
+  pub rooms : roomFits l z m ≡ true
+  rooms = rooms-asked l z (p .lent .table .lays) (p .lent .table .ranged) m
+      (record { filter-fits = p .filter-fits; packets-fit = p .lent .packets-fit; table = p .lent .table; room = p .lent .room })
+
+  -- nothing is refused with 8 or 16
+  pub passed : {A : Type 0} (notSession badRoom goes : A) → tested l s m notSession badRoom goes ≡ goes
+  passed notSession badRoom goes = tested-passed l s m notSession badRoom goes (range-test z (p .lent .table .ranged)) rooms (p .passes)
+
+  -- lists that show a session are followed by those numbers and that room
+  followed : {n : ℕ} {t : Rattle.peeling.specs.Table.Tab} {packets : List ℕ} {rs : Rattle.list.specs.Records.Records}
+      {q : Rattle.theory.specs.Session.Session} → Shows l z (s .salt) n t packets rs q
+      → Follows l v q (live (withListed s n) (memory (m .filter) t packets rs))
+  followed h = record {
+    seen-as = h .seen-as;
+    passing = record { lent = h .lent; filter-fits = p .filter-fits; passes = h .passes };
+    same-switch = refl;
+  }
+
+  -- ---- settling
+  abbrev settled : settling.Settled
+  settled = settling.settleOf l z (s .salt) (s .listed) (m .table) (m .packets) (m .list) (bitsOf l s m)
+
+  settle-passed : settleOf l s m ≡ settleLeaves m settled
+  unfolding settleOf
+  settle-passed = passed (settlingTo answers.NotSession m) (settlingTo answers.BadRoom m) (settleLeaves m settled)
+
+  listed-after : (a : Stop) → afterSettle s (settleAnswer a) ≡ withListed s (listedAt a)
+  listed-after (stop.Done n) = refl
+  listed-after (stop.Full n c) = refl
+  listed-after (stop.Damaged n c) = refl
+
+  settle-live : callOn l theory.settling v
+      ≡ live (withListed s (listedAt (settled .answer))) (memory (m .filter) (settled .table) (settled .packets) (settled .list))
+  unfolding callOn
+  settle-live = rw settle-passed (ap (λ n. live n (memory (m .filter) (settled .table) (settled .packets) (settled .list))) (listed-after (settled .answer)))
+
+  -- Theorem: settling is the theory's, which looks through all cells at each step
+  pub settle-follows : Follows l v (theory.settleAt (switchAt l v) (viewed l v) .state) (callOn l theory.settling v)
+  settle-follows = subst (Follows l v (theory.settleAt (switchAt l v) (viewed l v) .state)) (sym settle-live)
+      (followed (settle-shows l z (s .salt) (m .filter) (s .listed) (m .table) (m .packets) (m .list) (p .lent) (p .passes) (bitsOf l s m)))
+
+  stop-number : (a : Stop) → settleNumber (settleAnswer a) ≡ stopNumber (stopOf a)
+  stop-number (stop.Done n) = refl
+  stop-number (stop.Full n c) = refl
+  stop-number (stop.Damaged n c) = refl
+
+  pub settle-number : settleNumber (settleOf l s m .answer) ≡ stopNumber (theory.settleAt (switchAt l v) (viewed l v) .stop)
+  settle-number = rw settle-passed (stop-number (settled .answer)
+      ∙ ap stopNumber (settle-stops l z (s .salt) (m .filter) (s .listed) (m .table) (m .packets) (m .list) (p .lent) (p .passes) (bitsOf l s m)))
+
+  -- ---- hand-over
+  module _ (x : Key) (fits : length x ≡ l .key) where
+    abbrev handed-on : handing.Handing
+    handed-on = handing.handOf l z (s .salt) (s .listed) x (m .filter) (m .table) (m .list) (bitsOf l s m)
+
+    hand-passed : handOver l s x m ≡ handLeaves s m handed-on
+    unfolding handOver
+    hand-passed = passed (handingTo over.NotSession m) (handingTo over.BadRoom m) (handLeaves s m handed-on)
+
+    over-number : (n : ℕ) (a : Handed) → handOverNumber (handAnswer n a) ≡ handing.handNumber a
+    over-number n handed.Taken = refl
+    over-number n handed.NotInFilter = refl
+    over-number n handed.Listed = refl
+    over-number n handed.EmptyCell = refl
+    over-number n handed.TooMany = refl
+
+    -- 01's number is the theory's
+    pub hand-over-number : handOverNumber (handOver l s x m .answer) ≡ theory.handAnswer (switchAt l v) x (viewed l v)
+    hand-over-number = rw hand-passed (over-number (s .listed) (handed-on .answer)
+        ∙ hand-number l z (s .salt) (m .filter) (s .listed) (m .table) (m .packets) (m .list) (p .lent) (p .passes) (bitsOf l s m) x fits)
+
+    same-numbers : {n : ℕ} → n ≡ s .listed → s ≡ withListed s n
+    same-numbers e = ap (withListed s) (sym e)
+
+    listed-more : (a : Handed) → afterHand s (handAnswer (s .listed) a) ≡ withListed s (s .listed + takenBy a)
+    listed-more handed.Taken = refl
+    listed-more handed.NotInFilter = same-numbers (omega arith)
+    listed-more handed.Listed = same-numbers (omega arith)
+    listed-more handed.EmptyCell = same-numbers (omega arith)
+    listed-more handed.TooMany = same-numbers (omega arith)
+
+    hand-live : callOn l (theory.hand x) v
+        ≡ live (withListed s (s .listed + takenBy (handed-on .answer))) (memory (m .filter) (handed-on .table) (m .packets) (handed-on .list))
+    unfolding callOn
+    hand-live = rw hand-passed (ap (λ n. live n (memory (m .filter) (handed-on .table) (m .packets) (handed-on .list))) (listed-more (handed-on .answer)))
+
+    -- Theorem: a hand-over is the theory's
+    pub hand-follows : Follows l v (theory.handOver (switchAt l v) x (viewed l v)) (callOn l (theory.hand x) v)
+    hand-follows = subst (Follows l v (theory.handOver (switchAt l v) x (viewed l v))) (sym hand-live)
+        (followed (hand-shows l z (s .salt) (m .filter) (s .listed) (m .table) (m .packets) (m .list) (p .lent) (p .passes) (bitsOf l s m) x fits))
+
+-- ---- calls in order
+follows-one : (l : Layout) (a : theory.Call) (later : List theory.Call) (v u t : Live) → Follows l v (theory.call (switchAt l v) a (viewed l v)) u
+    → Follows l u (theory.calls (switchAt l u) later (viewed l u)) t → Follows l v (theory.calls (switchAt l v) (a ∷ later) (viewed l v)) t
+unfolding theory.calls
+follows-one l a later v u t f g = record {
+  seen-as = g .seen-as ∙ ap₂ (λ w q. theory.calls w later q) (f .same-switch) (f .seen-as);
+  passing = g .passing;
+  same-switch = g .same-switch ∙ f .same-switch;
+}
+
+-- Theorem: on a session that passes the test, any calls are the theory's, and leave a session that passes it
+pub calls-follow : (l : Layout) (later : List theory.Call) → KeysFit l later → (v : Live) → Passing l v
+    → Follows l v (theory.calls (switchAt l v) later (viewed l v)) (callsOn l later v)
+unfolding KeysFit callsOn theory.calls theory.call
+calls-follow l [] fits v p = record { seen-as = refl; passing = p; same-switch = refl }
+calls-follow l (theory.hand x ∷ later) fits v p =
+    let u = callOn l (theory.hand x) v in
+    let f = hand-follows l v p x (fits .0) in
+    follows-one l (theory.hand x) later v u (callsOn l later u) f (calls-follow l later (fits .1) u (f .passing))
+calls-follow l (theory.settling ∷ later) fits v p =
+    let u = callOn l theory.settling v in
+    let f = settle-follows l v p in
+    follows-one l theory.settling later v u (callsOn l later u) f (calls-follow l later fits u (f .passing))

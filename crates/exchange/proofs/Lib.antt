@@ -1,0 +1,1 @@
+-- No law yet: what is proved of these definitions stands in joint.

@@ -1,0 +1,3 @@
+-- What the exchange does to lists, and what it answers.
+pub mod Sides
+pub mod Exchange

@@ -1,0 +1,55 @@
+-- What the theorems of this crate say: the exchange call on two sessions as the theory sees it.
+use Prim.Native.Nat.{ℕ}
+use Rattle.layout.specs.declared.Layout.{Layout}
+use Rattle.exchange.specs.declared.Exchanged.{Exchanged}
+use Rattle.exchange.specs.declared.Exchanged.the-variants as exchanged
+use Rattle.exchange.specs.Exchange.{Exchanging, exchangeOf, joined, roomA, roomB}
+use Rattle.theory.specs.Exchange.{Pair}
+use Rattle.demands.specs.Calls.{Live, live, withListed, viewed}
+
+-- the flows that each session lists after an exchange, and the answers 12 in it; a refusal lists no more than before and counts none
+abbrev pub listedA : Exchanged → ℕ → ℕ
+listedA (exchanged.Done a b twelves) n = a
+listedA (exchanged.FullA c a b twelves) n = a
+listedA (exchanged.DamagedA c a b twelves) n = a
+listedA (exchanged.FullB c a b twelves) n = a
+listedA (exchanged.DamagedB c a b twelves) n = a
+listedA exchanged.NotSession n = n
+listedA exchanged.BadRoom n = n
+listedA exchanged.OtherSlot n = n
+
+abbrev pub listedB : Exchanged → ℕ → ℕ
+listedB (exchanged.Done a b twelves) n = b
+listedB (exchanged.FullA c a b twelves) n = b
+listedB (exchanged.DamagedA c a b twelves) n = b
+listedB (exchanged.FullB c a b twelves) n = b
+listedB (exchanged.DamagedB c a b twelves) n = b
+listedB exchanged.NotSession n = n
+listedB exchanged.BadRoom n = n
+listedB exchanged.OtherSlot n = n
+
+abbrev pub twelvesOf : Exchanged → ℕ
+twelvesOf (exchanged.Done a b twelves) = twelves
+twelvesOf (exchanged.FullA c a b twelves) = twelves
+twelvesOf (exchanged.DamagedA c a b twelves) = twelves
+twelvesOf (exchanged.FullB c a b twelves) = twelves
+twelvesOf (exchanged.DamagedB c a b twelves) = twelves
+twelvesOf exchanged.NotSession = 0
+twelvesOf exchanged.BadRoom = 0
+twelvesOf exchanged.OtherSlot = 0
+
+-- the call on two sessions whose room is joined, and what stands then, as the theory sees it
+abbrev pub exchangeOn : Layout → Live → Live → Exchanging
+exchangeOn l u v = exchangeOf l (u .numbers) (v .numbers) (joined (u .room) (v .room))
+
+abbrev pub pairBefore : Layout → Live → Live → Pair
+pairBefore l u v = record { a = viewed l u; b = viewed l v; twelves = 0 }
+
+abbrev pub pairAfter : Layout → Live → Live → Pair
+pairAfter l u v =
+    let x = exchangeOn l u v in
+    record {
+      a = viewed l (live (withListed (u .numbers) (listedA (x .answer) (u .numbers .listed))) (roomA l (u .numbers .sizes) (x .room)));
+      b = viewed l (live (withListed (v .numbers) (listedB (x .answer) (v .numbers .listed))) (roomB l (u .numbers .sizes) (x .room)));
+      twelves = twelvesOf (x .answer);
+    }

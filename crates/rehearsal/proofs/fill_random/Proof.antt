@@ -1,0 +1,56 @@
+-- `rehearsal::fill_random` meets its contract.
+use Prim.Native.Nat.{_≤_, _-_}
+use mathlib.Core.Path.{_≡_}
+use native.Mathlib.Omega.{arith}
+use lib.ListN.{length, length-set}
+use Rattle.rehearsal.proofs.fill_random.Statement.{statement}
+use Rattle.rehearsal.proofs.fill_random.Tie as tie
+
+abbrev Inv-loop : tie.InvT-loop
+Inv-loop s₀ seed x₀ i₀ s x i = (i ≤ length s₀) × (length s ≡ length s₀)
+
+abbrev μ-loop : tie.MeasureT-loop
+μ-loop s₀ seed x₀ i₀ s x i = length s₀ - i
+
+loop-holds : tie.Need-loop-holds Inv-loop μ-loop
+loop-holds c = omega arith
+
+next-seed-requires : tie.Need-next-seed-requires Inv-loop μ-loop
+next-seed-requires c κs = omega arith
+
+cast-s : tie.Need-cast-s Inv-loop μ-loop
+cast-s c = omega arith
+
+slice-write-s : tie.Need-slice-write-s Inv-loop μ-loop
+slice-write-s c = omega arith
+
+add-i : tie.Need-add-i Inv-loop μ-loop
+add-i c = omega arith
+
+loop-less : tie.Need-loop-less Inv-loop μ-loop
+loop-less c = omega arith
+
+loop-again : tie.Need-loop-again Inv-loop μ-loop
+loop-again c = (omega arith, simp length-set (omega arith))
+
+same-length : tie.Need-same-length Inv-loop μ-loop
+same-length c = omega arith
+
+returns : tie.Need-returns Inv-loop μ-loop
+returns c = omega arith
+
+pub fill-random-spec : {M : Type 1} → statement M
+fill-random-spec =
+    tie.close
+    (tie.spec
+    Inv-loop
+    μ-loop
+    loop-holds
+    next-seed-requires
+    cast-s
+    slice-write-s
+    add-i
+    loop-less
+    loop-again
+    same-length
+    returns)

@@ -1,0 +1,935 @@
+// A program for tests: it reads requests on standard input, makes the call on a session that each names, and writes a line with all that the
+// call left. tests/independent answers the same requests by code of its own, and compares. tests/PROTOCOL.md has the requests.
+ghost use mathlib.Core.Path.{_≡_};
+ghost use Prim.Native.Nat.{_≤_};
+ghost use lib.ListN.{length};
+use layout::Sizes;
+use libc::STDIN_FILENO;
+use libc::STDOUT_FILENO;
+use opening::Opened;
+use packet::Key;
+use room::Session;
+use session::HandOver;
+use session::Reported;
+use session::Settled;
+use summary::Report;
+use summary::State;
+
+// The most elements that each slice may have.
+const MOST: [usize; 10] = [8192, 20480, 2048, 2048, 2048, 2048, 40, 40960, 4096, 4096];
+
+// How many elements each slice of a memory has.
+struct Lengths {
+    filter: usize,
+    xors: usize,
+    flows: usize,
+    packets: usize,
+    unknowns: usize,
+    positions: usize,
+    marks: usize,
+    keys: usize,
+    counts: usize,
+    flags: usize,
+}
+
+// ---- reading a payload: what lies past its end is 0
+fn byte_at(s: &[u8], at: usize) -> u8 {
+    if s.len() <= at {
+        return 0;
+    }
+    s[at]
+}
+
+fn short_at(s: &[u8], at: usize) -> u16 {
+    if s.len() < 2 {
+        return 0;
+    }
+    if s.len() - 2 < at {
+        return 0;
+    }
+    fields::short_at(s, at)
+}
+
+fn long_at(s: &[u8], at: usize) -> u32 {
+    if s.len() < 4 {
+        return 0;
+    }
+    if s.len() - 4 < at {
+        return 0;
+    }
+    fields::long_at(s, at)
+}
+
+fn word_at(s: &[u8], at: usize) -> u64 {
+    if s.len() < 8 {
+        return 0;
+    }
+    if s.len() - 8 < at {
+        return 0;
+    }
+    (fields::long_at(s, at) as u64) * 4294967296 + (fields::long_at(s, at + 4) as u64)
+}
+
+// The place n bytes on.
+fn past(s: &[u8], at: usize, n: usize) -> usize {
+    if s.len() < n {
+        return s.len();
+    }
+    if s.len() - n < at {
+        return s.len();
+    }
+    at + n
+}
+
+fn wide(b: u8) -> usize
+    ensures { λ r. ⌜ r ≤ 255 ⌝ }
+{
+    b as usize
+}
+
+// The number in 3 bytes.
+fn three_at(s: &[u8], at: usize) -> usize
+    ensures { λ r. ⌜ r ≤ 16777215 ⌝ }
+{
+    if s.len() < 3 {
+        return 0;
+    }
+    if s.len() - 3 < at {
+        return 0;
+    }
+    wide(s[at]) * 65536 + wide(s[at + 1]) * 256 + wide(s[at + 2])
+}
+
+fn sizes_at(p: &[u8]) -> Sizes {
+    Sizes {
+        kf: wide(byte_at(p, 0)),
+        f: wide(byte_at(p, 1)),
+        k: wide(byte_at(p, 2)),
+        q: wide(byte_at(p, 3)),
+    }
+}
+
+fn session_at(p: &[u8]) -> Session {
+    let sizes = sizes_at(p);
+    Session {
+        sizes,
+        salt: long_at(p, 4),
+        slot: long_at(p, 8),
+        listed: long_at(p, 12) as usize,
+    }
+}
+
+// The key in the last 13 bytes.
+fn key_at_end(p: &[u8]) -> Key {
+    let mut bytes = [0u8; 13];
+    if 13 <= p.len() {
+        fill_bytes(p, p.len() - 13, &mut bytes);
+    }
+    packet::key_from(&bytes)
+}
+
+// ---- lengths
+// The length at a place, or the most where it is above that.
+fn length_at(lengths: &[u8], at: usize, most: usize) -> usize
+    ensures { λ r. ⌜ r ≤ most ⌝ }
+{
+    let n = three_at(lengths, at);
+    if most < n {
+        return most;
+    }
+    n
+}
+
+// The ten lengths, none above the most.
+fn lengths_at(lengths: &[u8]) -> Lengths
+    ensures { λ r. ⌜ (r .filter ≤ 8192) × (r .xors ≤ 20480) × (r .flows ≤ 2048) × (r .packets ≤ 2048) × (r .unknowns ≤ 2048)
+        × (r .positions ≤ 2048) × (r .marks ≤ 40) × (r .keys ≤ 40960) × (r .counts ≤ 4096) × (r .flags ≤ 4096) ⌝ }
+{
+    Lengths {
+        filter: length_at(lengths, 0, 8192),
+        xors: length_at(lengths, 3, 20480),
+        flows: length_at(lengths, 6, 2048),
+        packets: length_at(lengths, 9, 2048),
+        unknowns: length_at(lengths, 12, 2048),
+        positions: length_at(lengths, 15, 2048),
+        marks: length_at(lengths, 18, 40),
+        keys: length_at(lengths, 21, 40960),
+        counts: length_at(lengths, 24, 4096),
+        flags: length_at(lengths, 27, 4096),
+    }
+}
+
+// Whether no length is above the most.
+fn lengths_hold(lengths: &[u8]) -> bool {
+    let most = MOST;
+    let mut i = 0;
+    while i < 10 {
+        if most[i] < three_at(lengths, 3 * i) {
+            return false;
+        }
+        i += 1;
+    }
+    true
+}
+
+// How many bytes the elements of a memory take: with every slice as long as may be, 110,912.
+fn element_bytes(lengths: &[u8]) -> usize
+    ensures { λ r. ⌜ r ≤ 110912 ⌝ }
+{
+    let m = lengths_at(lengths);
+    let bytes = m.filter + m.xors + m.keys + m.flags;
+    let shorts = m.flows + m.unknowns + m.positions;
+    bytes + 2 * shorts + 4 * (m.packets + m.counts) + 8 * m.marks
+}
+
+// ---- filling slices; each answers the place after what it took
+fn fill_bytes(source: &[u8], from: usize, s: &mut [u8]) -> usize {
+    let mut at = from;
+    let mut i = 0;
+    while i < s.len() {
+        s[i] = byte_at(source, at);
+        at = past(source, at, 1);
+        i += 1;
+    }
+    at
+}
+
+fn fill_shorts(source: &[u8], from: usize, s: &mut [u16]) -> usize {
+    let mut at = from;
+    let mut i = 0;
+    while i < s.len() {
+        s[i] = short_at(source, at);
+        at = past(source, at, 2);
+        i += 1;
+    }
+    at
+}
+
+fn fill_longs(source: &[u8], from: usize, s: &mut [u32]) -> usize {
+    let mut at = from;
+    let mut i = 0;
+    while i < s.len() {
+        s[i] = long_at(source, at);
+        at = past(source, at, 4);
+        i += 1;
+    }
+    at
+}
+
+fn fill_words(source: &[u8], from: usize, s: &mut [u64]) -> usize {
+    let mut at = from;
+    let mut i = 0;
+    while i < s.len() {
+        s[i] = word_at(source, at);
+        at = past(source, at, 8);
+        i += 1;
+    }
+    at
+}
+
+// The next number of the generator.
+fn next_seed(x: u32) -> u32 {
+    (((x as u64) * 1664525 + 1013904223) % 4294967296) as u32
+}
+
+fn fill_random(s: &mut [u8], seed: u32) {
+    let mut x = seed;
+    let mut i = 0;
+    while i < s.len() {
+        x = next_seed(x);
+        s[i] = (x / 16777216) as u8;
+        i += 1;
+    }
+}
+
+fn fill_memory(
+    elements: &[u8],
+    filter: &mut [u8],
+    xors: &mut [u8],
+    flows: &mut [u16],
+    packets: &mut [u32],
+    unknowns: &mut [u16],
+    positions: &mut [u16],
+    marks: &mut [u64],
+    keys: &mut [u8],
+    counts: &mut [u32],
+    flags: &mut [u8],
+) {
+    let a = fill_bytes(elements, 0, filter);
+    let b = fill_bytes(elements, a, xors);
+    let c = fill_shorts(elements, b, flows);
+    let d = fill_longs(elements, c, packets);
+    let e = fill_shorts(elements, d, unknowns);
+    let f = fill_shorts(elements, e, positions);
+    let g = fill_words(elements, f, marks);
+    let h = fill_bytes(elements, g, keys);
+    let i = fill_longs(elements, h, counts);
+    fill_bytes(elements, i, flags);
+}
+
+// ---- writing
+fn say(bytes: &[u8]) {
+    io::write_all(STDOUT_FILENO, bytes);
+}
+
+fn say_number(n: u64) {
+    io::print_decimal(STDOUT_FILENO, n);
+}
+
+// A space, then a number.
+fn say_next(n: u64) {
+    say(b" ");
+    say_number(n);
+}
+
+// One hexadecimal digit.
+fn digit(x: u8) -> u8 {
+    let d = x % 16;
+    if d < 10 {
+        return 48 + d;
+    }
+    87 + d
+}
+
+// A space, and a dot where nothing follows.
+fn say_gap(n: usize) {
+    if n == 0 {
+        say(b" .");
+        return;
+    }
+    say(b" ");
+}
+
+// Bytes in hexadecimal, up to 40,960 of them.
+fn say_bytes(s: &[u8]) {
+    say_gap(s.len());
+    let mut text = [0u8; 81920];
+    let mut i = 0;
+    while i < s.len() {
+        if 40960 <= i {
+            return;
+        }
+        text[2 * i] = digit(s[i] / 16);
+        text[2 * i + 1] = digit(s[i]);
+        i += 1;
+    }
+    let n = 2 * i;
+    say(&text[..n]);
+}
+
+fn say_short(x: u16) {
+    io::print_hex(STDOUT_FILENO, x as u64, 4);
+}
+
+fn say_shorts(s: &[u16]) {
+    say_gap(s.len());
+    let mut i = 0;
+    while i < s.len() {
+        say_short(s[i]);
+        i += 1;
+    }
+}
+
+fn say_long(x: u32) {
+    io::print_hex(STDOUT_FILENO, x as u64, 8);
+}
+
+fn say_longs(s: &[u32]) {
+    say_gap(s.len());
+    let mut i = 0;
+    while i < s.len() {
+        say_long(s[i]);
+        i += 1;
+    }
+}
+
+fn say_words(s: &[u64]) {
+    say_gap(s.len());
+    let mut i = 0;
+    while i < s.len() {
+        io::print_hex(STDOUT_FILENO, s[i], 16);
+        i += 1;
+    }
+}
+
+fn say_memory(
+    filter: &[u8],
+    xors: &[u8],
+    flows: &[u16],
+    packets: &[u32],
+    unknowns: &[u16],
+    positions: &[u16],
+    marks: &[u64],
+    keys: &[u8],
+    counts: &[u32],
+    flags: &[u8],
+) {
+    say_bytes(filter);
+    say_bytes(xors);
+    say_shorts(flows);
+    say_longs(packets);
+    say_shorts(unknowns);
+    say_shorts(positions);
+    say_words(marks);
+    say_bytes(keys);
+    say_longs(counts);
+    say_bytes(flags);
+}
+
+fn say_two(number: u64, n: usize) {
+    say_number(number);
+    say_next(n as u64);
+}
+
+fn say_three(number: u64, m: usize, n: usize) {
+    say_two(number, m);
+    say_next(n as u64);
+}
+
+fn say_session(s: Session) {
+    let z = s.sizes;
+    say(b"0 0");
+    say_next(z.kf as u64);
+    say_next(z.f as u64);
+    say_next(z.k as u64);
+    say_next(z.q as u64);
+    say_next(s.salt as u64);
+    say_next(s.slot as u64);
+    say_next(s.listed as u64);
+}
+
+fn say_opened(a: Opened) {
+    match a {
+        Opened::Open(s) => say_session(s),
+        Opened::Length => say_two(1, 0),
+        Opened::Check(n) => say_two(2, n),
+        Opened::Form(n) => say_two(3, n),
+        Opened::Mixed(n) => say_two(4, n),
+        Opened::Stale => say_two(5, 0),
+        Opened::BadRoom => say_two(16, 0),
+    }
+}
+
+fn say_state(s: State) {
+    match s {
+        State::Stuck => say(b" stuck"),
+        State::Short => say(b" short"),
+        State::Whole => say(b" whole"),
+    }
+}
+
+fn say_report(t: Report) {
+    say_three(0, t.listed, t.counted);
+    say_next(t.opens as u64);
+    let s = t.state;
+    say_state(s);
+}
+
+fn say_reported(a: Reported) {
+    match a {
+        Reported::Told(t) => say_report(t),
+        Reported::NotSession => say_number(8),
+        Reported::BadRoom => say_number(16),
+    }
+}
+
+fn say_settled(a: Settled) {
+    match a {
+        Settled::Done { listed } => say_two(0, listed),
+        Settled::Full { listed, cell } => say_three(13, listed, cell),
+        Settled::Damaged { listed, cell } => say_three(14, listed, cell),
+        Settled::NotSession => say_number(8),
+        Settled::BadRoom => say_number(16),
+    }
+}
+
+fn say_handed(a: HandOver) {
+    match a {
+        HandOver::Done { listed } => say_two(0, listed),
+        HandOver::NotSession => say_number(8),
+        HandOver::NotInFilter => say_number(9),
+        HandOver::Listed => say_number(10),
+        HandOver::EmptyCell => say_number(11),
+        HandOver::TooMany => say_number(12),
+        HandOver::BadRoom => say_number(16),
+    }
+}
+
+// ---- the calls
+// Request 6: the image is what lies past the first 38 bytes.
+fn open(
+    p: &[u8],
+    filter: &mut [u8],
+    xors: &mut [u8],
+    flows: &mut [u16],
+    packets: &mut [u32],
+    unknowns: &mut [u16],
+    positions: &mut [u16],
+    marks: &mut [u64],
+    keys: &mut [u8],
+    counts: &mut [u32],
+    flags: &mut [u8],
+) {
+    if p.len() < 38 {
+        return;
+    }
+    let from = 38;
+    say_opened(session::open(
+        &p[from..],
+        long_at(p, 0),
+        filter,
+        xors,
+        flows,
+        packets,
+        unknowns,
+        positions,
+        marks,
+        keys,
+        counts,
+        flags,
+    ));
+}
+
+// Request 8, settle, or request 9, hand-over, whose key is at the end.
+fn change(
+    op: u8,
+    p: &[u8],
+    filter: &mut [u8],
+    xors: &mut [u8],
+    flows: &mut [u16],
+    packets: &mut [u32],
+    unknowns: &mut [u16],
+    positions: &mut [u16],
+    marks: &mut [u64],
+    keys: &mut [u8],
+    counts: &mut [u32],
+    flags: &mut [u8],
+) {
+    let s = session_at(p);
+    if op == 8 {
+        say_settled(session::settle(
+            s,
+            filter,
+            xors,
+            flows,
+            packets,
+            unknowns,
+            positions,
+            marks,
+            keys,
+            counts,
+            flags,
+        ));
+        return;
+    }
+    say_handed(session::hand_over(
+        s,
+        key_at_end(p),
+        filter,
+        xors,
+        flows,
+        packets,
+        unknowns,
+        positions,
+        marks,
+        keys,
+        counts,
+        flags,
+    ));
+}
+
+// Request 7, report, or one that may change what is lent.
+fn call_on(
+    op: u8,
+    p: &[u8],
+    filter: &mut [u8],
+    xors: &mut [u8],
+    flows: &mut [u16],
+    packets: &mut [u32],
+    unknowns: &mut [u16],
+    positions: &mut [u16],
+    marks: &mut [u64],
+    keys: &mut [u8],
+    counts: &mut [u32],
+    flags: &mut [u8],
+) {
+    if op == 7 {
+        say_reported(session::report(
+            session_at(p),
+            filter,
+            xors,
+            flows,
+            packets,
+            unknowns,
+            positions,
+            marks,
+            keys,
+            counts,
+            flags,
+        ));
+        return;
+    }
+    change(
+        op,
+        p,
+        filter,
+        xors,
+        flows,
+        packets,
+        unknowns,
+        positions,
+        marks,
+        keys,
+        counts,
+        flags,
+    );
+}
+
+// The call that a request names, and its answer.
+fn call(
+    op: u8,
+    p: &[u8],
+    filter: &mut [u8],
+    xors: &mut [u8],
+    flows: &mut [u16],
+    packets: &mut [u32],
+    unknowns: &mut [u16],
+    positions: &mut [u16],
+    marks: &mut [u64],
+    keys: &mut [u8],
+    counts: &mut [u32],
+    flags: &mut [u8],
+) {
+    if op == 6 {
+        open(
+            p,
+            filter,
+            xors,
+            flows,
+            packets,
+            unknowns,
+            positions,
+            marks,
+            keys,
+            counts,
+            flags,
+        );
+        return;
+    }
+    call_on(
+        op,
+        p,
+        filter,
+        xors,
+        flows,
+        packets,
+        unknowns,
+        positions,
+        marks,
+        keys,
+        counts,
+        flags,
+    );
+}
+
+// A request in a memory: what it holds before, the call, what it holds after.
+fn run(
+    op: u8,
+    p: &[u8],
+    elements: &[u8],
+    filter: &mut [u8],
+    xors: &mut [u8],
+    flows: &mut [u16],
+    packets: &mut [u32],
+    unknowns: &mut [u16],
+    positions: &mut [u16],
+    marks: &mut [u64],
+    keys: &mut [u8],
+    counts: &mut [u32],
+    flags: &mut [u8],
+) {
+    fill_memory(
+        elements,
+        filter,
+        xors,
+        flows,
+        packets,
+        unknowns,
+        positions,
+        marks,
+        keys,
+        counts,
+        flags,
+    );
+    call(
+        op,
+        p,
+        filter,
+        xors,
+        flows,
+        packets,
+        unknowns,
+        positions,
+        marks,
+        keys,
+        counts,
+        flags,
+    );
+    say_memory(
+        filter,
+        xors,
+        flows,
+        packets,
+        unknowns,
+        positions,
+        marks,
+        keys,
+        counts,
+        flags,
+    );
+}
+
+// ---- the lent memory: each slice is the front of room that has at least 8 elements more
+fn bytes_room() -> [u8; 40968]
+    ensures { λ r. ⌜ 40968 ≡ length r ⌝ }
+{
+    [0xA5; 40968]
+}
+
+fn shorts_room() -> [u16; 2056]
+    ensures { λ r. ⌜ 2056 ≡ length r ⌝ }
+{
+    [0xA5A5; 2056]
+}
+
+fn longs_room() -> [u32; 4104]
+    ensures { λ r. ⌜ 4104 ≡ length r ⌝ }
+{
+    [0xA5A5A5A5; 4104]
+}
+
+fn words_room() -> [u64; 48]
+    ensures { λ r. ⌜ 48 ≡ length r ⌝ }
+{
+    [0xA5A5A5A5A5A5A5A5; 48]
+}
+
+// Whether all behind the first n is as it was.
+fn whole_bytes(room: &[u8; 40968], n: usize) -> bool {
+    let mut i = n;
+    while i < 40968 {
+        if room[i] != 0xA5 {
+            return false;
+        }
+        i += 1;
+    }
+    true
+}
+
+fn whole_shorts(room: &[u16; 2056], n: usize) -> bool {
+    let mut i = n;
+    while i < 2056 {
+        if room[i] != 0xA5A5 {
+            return false;
+        }
+        i += 1;
+    }
+    true
+}
+
+fn whole_longs(room: &[u32; 4104], n: usize) -> bool {
+    let mut i = n;
+    while i < 4104 {
+        if room[i] != 0xA5A5A5A5 {
+            return false;
+        }
+        i += 1;
+    }
+    true
+}
+
+fn whole_words(room: &[u64; 48], n: usize) -> bool {
+    let mut i = n;
+    while i < 48 {
+        if room[i] != 0xA5A5A5A5A5A5A5A5 {
+            return false;
+        }
+        i += 1;
+    }
+    true
+}
+
+// Lends the list beside the filter and the cells; whether nothing behind what is lent changed.
+fn lend_list(
+    op: u8,
+    p: &[u8],
+    lengths: &[u8],
+    elements: &[u8],
+    filter: &mut [u8],
+    xors: &mut [u8],
+    flows: &mut [u16],
+    packets: &mut [u32],
+    unknowns: &mut [u16],
+    positions: &mut [u16],
+    marks: &mut [u64],
+) -> bool {
+    let m = lengths_at(lengths);
+    let mut keys = bytes_room();
+    let mut counts = longs_room();
+    let mut flags = bytes_room();
+    let a = m.keys;
+    let b = m.counts;
+    let c = m.flags;
+    run(
+        op,
+        p,
+        elements,
+        filter,
+        xors,
+        flows,
+        packets,
+        unknowns,
+        positions,
+        marks,
+        &mut keys[..a],
+        &mut counts[..b],
+        &mut flags[..c],
+    );
+    whole_bytes(&keys, a) & whole_longs(&counts, b) & whole_bytes(&flags, c)
+}
+
+// Lends a memory of the lengths asked for; whether nothing behind what is lent changed.
+fn lend(op: u8, p: &[u8], lengths: &[u8], elements: &[u8]) -> bool {
+    let m = lengths_at(lengths);
+    let mut filter = bytes_room();
+    let mut xors = bytes_room();
+    let mut flows = shorts_room();
+    let mut packets = longs_room();
+    let mut unknowns = shorts_room();
+    let mut positions = shorts_room();
+    let mut marks = words_room();
+    let a = m.filter;
+    let b = m.xors;
+    let c = m.flows;
+    let d = m.packets;
+    let e = m.unknowns;
+    let f = m.positions;
+    let g = m.marks;
+    let list = lend_list(
+        op,
+        p,
+        lengths,
+        elements,
+        &mut filter[..a],
+        &mut xors[..b],
+        &mut flows[..c],
+        &mut packets[..d],
+        &mut unknowns[..e],
+        &mut positions[..f],
+        &mut marks[..g],
+    );
+    let bytes = whole_bytes(&filter, a) & whole_bytes(&xors, b);
+    let shorts = whole_shorts(&flows, c) & whole_shorts(&unknowns, e) & whole_shorts(&positions, f);
+    list & bytes & shorts & whole_longs(&packets, d) & whole_words(&marks, g)
+}
+
+// The line of a request, with the memory after the call.
+fn answer_in_memory(op: u8, p: &[u8], lengths: &[u8], elements: &[u8]) {
+    if !lend(op, p, lengths, elements) {
+        say(b" guard");
+    }
+    say(b"\n");
+}
+
+// ---- requests
+// Request 6: the slices hold what the generator gives before the call.
+fn answer_open(p: &[u8]) {
+    if p.len() < 38 {
+        say(b"length\n");
+        return;
+    }
+    let from = 4;
+    let to = 34;
+    let lengths = &p[from..to];
+    if !lengths_hold(lengths) {
+        say(b"length\n");
+        return;
+    }
+    let mut noise = [0u8; 110912];
+    fill_random(&mut noise, long_at(p, 34));
+    answer_in_memory(6, p, lengths, &noise);
+}
+
+// How many bytes a request has behind its session.
+fn behind(op: u8) -> usize
+    ensures { λ r. ⌜ r ≤ 13 ⌝ }
+{
+    if op == 9 {
+        return 13;
+    }
+    0
+}
+
+// Requests 7 to 9: a session and its memory.
+fn answer_session(op: u8, p: &[u8]) {
+    if p.len() < 46 {
+        say(b"length\n");
+        return;
+    }
+    let from = 16;
+    let to = 46;
+    let lengths = &p[from..to];
+    if !lengths_hold(lengths) {
+        say(b"length\n");
+        return;
+    }
+    if p.len() != 46 + element_bytes(lengths) + behind(op) {
+        say(b"length\n");
+        return;
+    }
+    answer_in_memory(op, p, lengths, &p[to..]);
+}
+
+fn answer(op: u8, payload: &[u8]) {
+    match op {
+        6 => answer_open(payload),
+        7 | 8 | 9 => answer_session(op, payload),
+        _ => say(b"op\n"),
+    }
+}
+
+// A payload is read and answered; whether there was a whole one.
+fn serve_payload(op: u8, room: &mut [u8]) -> bool {
+    if io::read_full(STDIN_FILENO, room) < room.len() {
+        return false;
+    }
+    answer(op, room);
+    true
+}
+
+fn payload_room() -> [u8; 262144]
+    ensures { λ r. ⌜ 262144 ≡ length r ⌝ }
+{
+    [0; 262144]
+}
+
+// One request; whether there was a whole one.
+fn serve() -> bool {
+    let mut head = [0u8; 4];
+    if io::read_full(STDIN_FILENO, &mut head) < 4 {
+        return false;
+    }
+    let n = three_at(&head, 1);
+    if 262144 < n {
+        return false;
+    }
+    let mut room = payload_room();
+    serve_payload(head[0], &mut room[..n])
+}
+
+fn main() {
+    let mut turns = u64::MAX;
+    while turns > 0 && serve() {
+        turns -= 1;
+    }
+}

@@ -1,0 +1,3 @@
+-- Laws of this crate, and the proofs of its functions.
+pub mod Laws
+pub mod Outcomes

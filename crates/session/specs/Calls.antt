@@ -1,0 +1,110 @@
+-- The calls on a session: 01 'A session'. Each tests the session first ('room', `tested`), and a refusal keeps all memory.
+use mathlib.Core.List.{List}
+use Prim.Native.Nat.{ℕ, _+_}
+use lib.ListN.{replicate}
+use Rattle.layout.specs.declared.Layout.{Layout}
+use Rattle.test8.specs.Given.{seenUpto}
+use Rattle.room.specs.declared.Session.{Session}
+use Rattle.room.specs.Memory.{Memory, memory}
+use Rattle.room.specs.Test.{tested}
+use Rattle.peeling.specs.declared.Stop.{Stop}
+use Rattle.peeling.specs.declared.Stop.the-variants as stop
+use Rattle.settling.specs.Settle as settling
+use Rattle.handing.specs.declared.Handed.{Handed}
+use Rattle.handing.specs.declared.Handed.the-variants as hand
+use Rattle.handing.specs.Hand as handing
+use Rattle.summary.specs.Report.{reportOf}
+use Rattle.session.specs.declared.Tested.{Tested}
+use Rattle.session.specs.declared.Tested.the-variants as test
+use Rattle.session.specs.declared.HandOver.{HandOver}
+use Rattle.session.specs.declared.HandOver.the-variants as over
+use Rattle.session.specs.declared.Settled.{Settled}
+use Rattle.session.specs.declared.Settled.the-variants as settled
+use Rattle.session.specs.declared.Reported.{Reported}
+use Rattle.session.specs.declared.Reported.the-variants as reported
+
+-- a bit for each listed key, as the test of 8 leaves them; they shorten the search for a key and decide nothing
+abbrev pub bitsOf : Layout → Session → Memory → List ℕ
+bitsOf l s m = seenUpto l (s .sizes) (s .salt) (s .listed) (m .list .keys) (replicate 256 0)
+
+-- what the tests of every call answer: 01's table of numbers, 8 and 16
+abbrev pub testOf : Layout → Session → Memory → Tested
+testOf l s m = tested l s m test.NotSession test.BadRoom test.Passed
+
+-- ---- hand-over
+-- what the call answers, and the lent room afterwards
+pub record Handing : Type 0 where
+  pub answer : HandOver
+  pub room : Memory
+
+abbrev pub handingTo : HandOver → Memory → Handing
+handingTo answer m = record { answer = answer; room = m }
+
+-- where a key is taken out, one flow more is listed
+abbrev pub handAnswer : ℕ → Handed → HandOver
+handAnswer n hand.Taken = over.Done (n + 1)
+handAnswer n hand.NotInFilter = over.NotInFilter
+handAnswer n hand.Listed = over.Listed
+handAnswer n hand.EmptyCell = over.EmptyCell
+handAnswer n hand.TooMany = over.TooMany
+
+abbrev pub handLeaves : Session → Memory → handing.Handing → Handing
+handLeaves s m h = handingTo (handAnswer (s .listed) (h .answer)) (memory (m .filter) (h .table) (m .packets) (h .list))
+
+-- 01 'A session': "Hand-over of a key: in order, 8 not a session; 9 ..; else take out"
+unfoldable pub handOver : Layout → Session → List ℕ → Memory → Handing
+handOver l s key m =
+    tested l s m (handingTo over.NotSession m) (handingTo over.BadRoom m)
+    (handLeaves s m (handing.handOf l (s .sizes) (s .salt) (s .listed) key (m .filter) (m .table) (m .list) (bitsOf l s m)))
+
+-- 01's number for each answer
+abbrev pub handOverNumber : HandOver → ℕ
+handOverNumber (over.Done n) = 0
+handOverNumber over.NotSession = 8
+handOverNumber over.NotInFilter = 9
+handOverNumber over.Listed = 10
+handOverNumber over.EmptyCell = 11
+handOverNumber over.TooMany = 12
+handOverNumber over.BadRoom = 16
+
+-- ---- settling
+pub record Settling : Type 0 where
+  pub answer : Settled
+  pub room : Memory
+
+abbrev pub settlingTo : Settled → Memory → Settling
+settlingTo answer m = record { answer = answer; room = m }
+
+abbrev pub settleAnswer : Stop → Settled
+settleAnswer (stop.Done n) = settled.Done n
+settleAnswer (stop.Full n c) = settled.Full n c
+settleAnswer (stop.Damaged n c) = settled.Damaged n c
+
+abbrev pub settleLeaves : Memory → settling.Settled → Settling
+settleLeaves m e = settlingTo (settleAnswer (e .answer)) (memory (m .filter) (e .table) (e .packets) (e .list))
+
+-- 01 'A session': "Settle: while a cell is marked, take out .. Then, while a cell is ready, .."
+unfoldable pub settleOf : Layout → Session → Memory → Settling
+settleOf l s m =
+    tested l s m (settlingTo settled.NotSession m) (settlingTo settled.BadRoom m)
+    (settleLeaves m (settling.settleOf l (s .sizes) (s .salt) (s .listed) (m .table) (m .packets) (m .list) (bitsOf l s m)))
+
+-- 01's number and cell for each answer
+abbrev pub settleNumber : Settled → ℕ
+settleNumber (settled.Done n) = 0
+settleNumber (settled.Full n c) = 13
+settleNumber (settled.Damaged n c) = 14
+settleNumber settled.NotSession = 8
+settleNumber settled.BadRoom = 16
+
+-- ---- the report
+-- 01 'A session', Report: "worked out anew from list and cells"
+unfoldable pub reportOn : Layout → Session → Memory → Reported
+reportOn l s m =
+    tested l s m reported.NotSession reported.BadRoom (reported.Told (reportOf (s .listed) (m .table .flows) (m .list .flags)))
+
+-- 01's number for each answer
+abbrev pub reportNumber : Reported → ℕ
+reportNumber (reported.Told r) = 0
+reportNumber reported.NotSession = 8
+reportNumber reported.BadRoom = 16

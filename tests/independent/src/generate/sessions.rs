@@ -1,0 +1,109 @@
+//! Requests on sessions, each call in turn. Every call goes through the sound sessions and through the faults by its
+//! own turns, so that a stream of moderate length misses no answer.
+
+mod exchanges;
+mod faults;
+mod hands;
+pub mod opens;
+mod samples;
+mod tables;
+
+use crate::layout::KEY_BYTES;
+use crate::lent::SLICES;
+use crate::lent_session::LentSession;
+use crate::random::Random;
+use crate::request::{Request, EXCHANGE, HAND_OVER, OPEN, REPORT, SETTLE};
+use crate::session_request::{exchange_request, hand_over_request, request_on, SESSION_HEAD};
+use faults::{dress, fault_of_turn, faulty, two_faults};
+use samples::{Family, Sample};
+use tables::Spoiled;
+
+const CALLS: [u8; 5] = [OPEN, REPORT, SETTLE, HAND_OVER, EXCHANGE];
+
+const REPORTED: [Family; 9] = [
+    Family::Light,
+    Family::Settled,
+    Family::Short,
+    Family::Heavy,
+    Family::Worked,
+    Family::Full,
+    Family::Driven,
+    Family::Padded,
+    Family::Damaged,
+];
+
+const SETTLED: [Family; 15] = [
+    Family::Light,
+    Family::Heavy,
+    Family::Spoiled(Spoiled::PeelListed),
+    Family::Worked,
+    Family::Spoiled(Spoiled::PeelEmptyCell),
+    Family::Driven,
+    Family::Twice,
+    Family::Spoiled(Spoiled::CountZero),
+    Family::Missed,
+    Family::Spoiled(Spoiled::CountOver),
+    Family::Damaged,
+    Family::Settled,
+    Family::Short,
+    Family::Padded,
+    Family::Full,
+];
+
+pub fn request(random: &mut Random, number: usize) -> Request {
+    let (op, turn) = (CALLS[number % CALLS.len()], number / CALLS.len());
+    match op {
+        _ if turn % 40 == 38 => wrong_length(random, op),
+        OPEN => opens::request(random, turn),
+        REPORT => on_session(random, op, turn, &REPORTED),
+        SETTLE => on_session(random, op, turn, &SETTLED),
+        HAND_OVER => hands::request(random, turn),
+        _ => exchanges::request(random, turn),
+    }
+}
+
+/// Sound and faulty by turns; now and then with two faults.
+fn on_session(random: &mut Random, op: u8, turn: usize, families: &[Family]) -> Request {
+    let choice = turn / 2;
+    let session = if !turn.is_multiple_of(2) {
+        faulty(random, fault_of_turn(choice)).0
+    } else if choice % (families.len() + 1) == families.len() {
+        two_faults(random, choice / (families.len() + 1)).0
+    } else {
+        let mut session = Sample::of(families[choice % (families.len() + 1)], random).lent();
+        dress(random, &mut session);
+        session
+    };
+    request_on(op, &session)
+}
+
+/// A payload that is not as long as it says, or says more than there is room for.
+fn wrong_length(random: &mut Random, op: u8) -> Request {
+    if op == OPEN {
+        return opens::wrong_length(random);
+    }
+    let mut session = Sample::of(Family::Light, random).lent();
+    if random.once_in(4) {
+        let slice = random.pick(&SLICES);
+        session.memory.resize(slice, slice.room() + 1);
+        return request_with(op, &session);
+    }
+    let mut request = request_with(op, &session);
+    match random.below(3) {
+        0 => request.payload.push(0),
+        1 => request.payload.truncate(random.below(SESSION_HEAD)),
+        _ => {
+            let cut = random.pick(&[1, 1, 2, 13, 14]);
+            request.payload.truncate(request.payload.len() - cut);
+        }
+    }
+    request
+}
+
+fn request_with(op: u8, session: &LentSession) -> Request {
+    match op {
+        HAND_OVER => hand_over_request(session, &[0; KEY_BYTES]),
+        EXCHANGE => exchange_request(session, session),
+        _ => request_on(op, session),
+    }
+}
