@@ -1,18 +1,21 @@
 -- Counting step after step, as the loop goes.
 use mathlib.Core.Path.{_≡_, refl, sym, ap, subst, _∙_}
 use mathlib.Core.List.{List, [], _∷_}
-use mathlib.Core.Logic.{⊎-elim, _⊎_}
-use Prim.Native.Nat.{ℕ, zero, suc, _-_, _<_, _≤_}
+use mathlib.Core.Logic.{⊎-elim, _⊎_, inl, inr}
+use Prim.Native.Nat.{ℕ, zero, suc, _-_, _*_, _<_, _≤_}
 use native.Mathlib.Omega.{arith}
 use types.Run.{OneOf}
 use denote.Enum.Declared.{tagOf}
-use lib.ListN.{length, replicate}
+use lib.Dec.{ltb}
+use lib.ListN.{length, getD, replicate}
+use Rattle.laws.proofs.Bools.{split}
 use Rattle.layout.specs.declared.Layout.{Layout}
 use Rattle.layout.specs.declared.Sizes.{Sizes}
 use Rattle.layout.specs.Sizes.{tableCells}
-use Rattle.list.specs.Records.{Records}
+use Rattle.list.specs.Records.{Records, Room}
+use Rattle.marks.specs.Marks.{firstMark}
 use Rattle.counting.specs.Book.{Book, book, readyUpto}
-use Rattle.counting.specs.Count.{Fits, Counted, counted, countOf, Ended, ended, stopAt, endedAt, afterCount, countsUpto, countsOf}
+use Rattle.counting.specs.Count.{Fits, Counted, counted, countDamaged, countAt, countOf, Ended, ended, stopAt, endedAt, afterCount, countsUpto, countsOf}
 use Rattle.counting.specs.declared.Step.{Step}
 use Rattle.counting.specs.declared.Step.the-variants.{Quiet, Damaged, Next}
 use Rattle.counting.specs.declared.Stop.{Stop}
@@ -85,3 +88,58 @@ module _ {l : Layout} {z : Sizes} {salt n : ℕ} {flows : List ℕ} {m : ℕ} {b
   going-stop k e =
       ap (λ (x : Stop). ended x (b′ .packets) (b′ .unknowns) (b′ .positions) rs′) e
       ∙ stops (countsUpto (m - 1) l z salt n flows) s b′ rs′ k ∙ follows
+
+-- ---- what counting leaves
+-- all fits, and the keys stay
+pub record Lasts (l : Layout) (z : Sizes) (keys : List ℕ) (e : Ended) : Type 0 where
+  pub packets-fit : length (e .packets) ≡ tableCells l z
+  pub unknowns-fit : length (e .unknowns) ≡ tableCells l z
+  pub positions-fit : length (e .positions) ≡ tableCells l z
+  pub room : Room l (2 * tableCells l z) (e .list)
+  pub keys-kept : e .list .keys ≡ keys
+
+module _ (l : Layout) (z : Sizes) (salt n : ℕ) (flows : List ℕ) where
+  step-keys : (b : Book) (rs : Records) → countOf l z salt n flows b rs .list .keys ≡ rs .keys
+  unfolding countOf countAt
+  step-keys b rs =
+      let c = firstMark (b .ready) in
+      let i = getD (b .positions) c 0 in
+      elim (split (ltb c (tableCells l z))) [
+        | inr p ↦ rw p
+        | inl p ↦ elim (split (countDamaged l z salt n (b .packets) (rs .keys) i (getD (b .packets) c 0))) [
+          | inl q ↦ rw (p, q)
+          | inr q ↦ rw (p, q)
+        ]
+      ]
+
+  at-lasts : (s : Step) (b : Book) (rs : Records) → Fits l z n flows b rs → Lasts l z (rs .keys) (endedAt s b rs)
+  at-lasts s b rs f = record {
+    packets-fit = f .cells .packets-fit;
+    unknowns-fit = f .cells .unknowns-fit;
+    positions-fit = f .cells .positions-fit;
+    room = f .room;
+    keys-kept = refl;
+  }
+
+  after-lasts : (more : Book → Records → Ended) → ((b : Book) (rs : Records) → Fits l z n flows b rs → Lasts l z (rs .keys) (more b rs)) → (s : Step)
+      (b : Book) (rs : Records) → Fits l z n flows b rs
+      → Lasts l z (rs .keys) (afterCount more s b rs)
+  unfolding afterCount
+  after-lasts more h Next b rs f = h b rs f
+  after-lasts more h Quiet b rs f = at-lasts Quiet b rs f
+  after-lasts more h (Damaged c) b rs f = at-lasts (Damaged c) b rs f
+
+  upto-lasts : (m : ℕ) (b : Book) (rs : Records) → Fits l z n flows b rs → Lasts l z (rs .keys) (countsUpto m l z salt n flows b rs)
+  unfolding countsUpto
+  upto-lasts zero b rs f = at-lasts Quiet b rs f
+  upto-lasts (suc m) b rs f =
+      let p = countOf l z salt n flows b rs in
+      subst (λ k. Lasts l z k (countsUpto (suc m) l z salt n flows b rs)) (step-keys b rs)
+      (after-lasts (countsUpto m l z salt n flows) (upto-lasts m) (p .answer) (p .cells) (p .list) (fits-step l z salt n flows b rs f))
+
+  pub counts-last : (packets unknowns positions : List ℕ) (rs : Records) → Fits l z n flows (book packets unknowns positions (replicate 24 0)) rs
+      → Lasts l z (rs .keys) (countsOf l z salt n flows packets unknowns positions rs)
+  counts-last packets unknowns positions rs f =
+      let g = going l z salt n flows packets unknowns positions rs f refl refl in
+      subst (Lasts l z (rs .keys)) (g .goes)
+      (upto-lasts n (book packets unknowns positions (readyUpto flows unknowns (tableCells l z))) rs (g .fits))

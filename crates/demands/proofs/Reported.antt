@@ -15,7 +15,8 @@ use Rattle.list.specs.Records.{Records, isKnown}
 use Rattle.test8.specs.Test8.{openIn}
 use Rattle.summary.specs.Report.{countedIn, stateOf, reportOf}
 use Rattle.session.specs.Calls.{reportOn}
-use Rattle.session.specs.declared.Reported.the-variants.{Told, NotSession, BadRoom}
+use Rattle.session.proofs.Laws.{report-passes}
+use Rattle.session.specs.declared.Reported.the-variants.{Told}
 use Rattle.theory.specs.Session.{keysWhere, unknownsOf, openCells}
 use Rattle.theory.specs.Report as theory
 use Rattle.link.specs.View.{recordAt, recordsOf}
@@ -23,7 +24,7 @@ use Rattle.link.proofs.Given.{where-number}
 use Rattle.link.proofs.Test8.{open-is}
 use Rattle.demands.specs.Calls.{Live, viewed, Passing}
 use Rattle.demands.specs.Demands.{reportAs, stateAs}
-use Rattle.demands.proofs.Steps.{passed}
+use Rattle.demands.proofs.Steps.{tests-pass}
 
 state-is : (opens unknown : ℕ) → stateAs (stateOf opens unknown) ≡ theory.stateOf opens unknown
 state-is opens unknown = elim (split (ltb 0 opens)) [
@@ -59,9 +60,9 @@ module _ (l : Layout) (v : Live) (p : Passing l v) where
   -- Theorem: 01 'A session', Report: "worked out anew from list and cells"
   pub report-counts : (reportOn l (v .numbers) (v .room) ≡ Told (reportOf n (v .room .table .flows) (rs .flags)))
       × (reportAs (reportOf n (v .room .table .flows) (rs .flags)) ≡ theory.report size (viewed l v))
-  unfolding reportOn reportOf theory.report
+  unfolding reportOf theory.report
   report-counts = (
-    passed l v p NotSession BadRoom (Told (reportOf n (v .room .table .flows) (rs .flags))),
+    report-passes l (v .numbers) (v .room) (tests-pass l v p),
     report-path (sym (length-list n (recordAt l rs))) counted-is opens-is
         (state-is (openIn (length (v .room .table .flows)) (v .room .table .flows)) (n - countedIn n (rs .flags))
         ∙ ap₂ theory.stateOf opens-is unknown-is),

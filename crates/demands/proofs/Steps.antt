@@ -1,6 +1,5 @@
 -- Each call of 01 on a session that passes the test is the theory's call on what is seen of it, and leaves a session that passes.
 use mathlib.Core.Path.{_≡_, refl, sym, ap, ap₂, subst, _∙_}
-use mathlib.Core.Bool.{true}
 use mathlib.Core.List.{List, [], _∷_}
 use Prim.Native.Nat.{ℕ, _+_}
 use native.Mathlib.Omega.{arith}
@@ -12,17 +11,16 @@ use Rattle.peeling.specs.Peel.{listedAt}
 use Rattle.peeling.specs.declared.Stop.{Stop}
 use Rattle.peeling.specs.declared.Stop.the-variants as stop
 use Rattle.room.specs.declared.Session.{Session}
-use Rattle.room.specs.Memory.{Memory, memory, roomFits}
-use Rattle.room.specs.Test.{tested}
-use Rattle.room.proofs.Laws.{rooms-asked, tested-passed}
+use Rattle.room.specs.Memory.{Memory, memory}
+use Rattle.room.proofs.Laws.{rooms-asked}
+use Rattle.session.proofs.Answers.{Passes}
+use Rattle.session.proofs.Laws.{hand-over-passes, settle-passes, same-number}
 use Rattle.settling.specs.Settle as settling
 use Rattle.handing.specs.declared.Handed.{Handed}
 use Rattle.handing.specs.declared.Handed.the-variants as handed
 use Rattle.handing.specs.Hand as handing
 use Rattle.handing.specs.Hand.{takenBy}
-use Rattle.session.specs.Calls.{bitsOf, handingTo, handAnswer, handLeaves, handOver, handOverNumber, settlingTo, settleLeaves, settleOf, settleNumber, settleAnswer}
-use Rattle.session.specs.declared.HandOver.the-variants as over
-use Rattle.session.specs.declared.Settled.the-variants as answers
+use Rattle.session.specs.Calls.{bitsOf, handAnswer, handOver, handOverNumber, settleOf, settleNumber, settleAnswer}
 use Rattle.theory.specs.Flow.{Key}
 use Rattle.theory.specs.Settle.{stopNumber}
 use Rattle.theory.specs.HandOver as theory
@@ -46,13 +44,14 @@ module _ (l : Layout) (v : Live) (p : Passing l v) where
   abbrev z : Sizes
   z = s .sizes
 
-  pub rooms : roomFits l z m ≡ true
-  rooms = rooms-asked l z (p .lent .table .lays) (p .lent .table .ranged) m
-      (record { filter-fits = p .filter-fits; packets-fit = p .lent .packets-fit; table = p .lent .table; room = p .lent .room })
-
   -- nothing is refused with 8 or 16
-  pub passed : {A : Type 0} (notSession badRoom goes : A) → tested l s m notSession badRoom goes ≡ goes
-  passed notSession badRoom goes = tested-passed l s m notSession badRoom goes (range-test z (p .lent .table .ranged)) rooms (p .passes)
+  pub tests-pass : Passes l s m
+  tests-pass = record {
+    sizes = range-test z (p .lent .table .ranged);
+    room = rooms-asked l z (p .lent .table .lays) (p .lent .table .ranged) m
+        (record { filter-fits = p .filter-fits; packets-fit = p .lent .packets-fit; table = p .lent .table; room = p .lent .room });
+    rest = p .passes;
+  }
 
   -- lists that show a session are followed by those numbers and that room
   followed : {n : ℕ} {t : Rattle.peeling.specs.Table.Tab} {packets : List ℕ} {rs : Rattle.list.specs.Records.Records}
@@ -68,10 +67,6 @@ module _ (l : Layout) (v : Live) (p : Passing l v) where
   abbrev settled : settling.Settled
   settled = settling.settleOf l z (s .salt) (s .listed) (m .table) (m .packets) (m .list) (bitsOf l s m)
 
-  settle-passed : settleOf l s m ≡ settleLeaves m settled
-  unfolding settleOf
-  settle-passed = passed (settlingTo answers.NotSession m) (settlingTo answers.BadRoom m) (settleLeaves m settled)
-
   listed-after : (a : Stop) → afterSettle s (settleAnswer a) ≡ withListed s (listedAt a)
   listed-after (stop.Done n) = refl
   listed-after (stop.Full n c) = refl
@@ -80,7 +75,7 @@ module _ (l : Layout) (v : Live) (p : Passing l v) where
   settle-live : callOn l theory.settling v
       ≡ live (withListed s (listedAt (settled .answer))) (memory (m .filter) (settled .table) (settled .packets) (settled .list))
   unfolding callOn
-  settle-live = rw settle-passed (ap (λ n. live n (memory (m .filter) (settled .table) (settled .packets) (settled .list))) (listed-after (settled .answer)))
+  settle-live = rw (settle-passes l s m tests-pass) (ap (λ n. live n (memory (m .filter) (settled .table) (settled .packets) (settled .list))) (listed-after (settled .answer)))
 
   -- Theorem: settling is the theory's, which looks through all cells at each step
   pub settle-follows : Follows l v (theory.settleAt (switchAt l v) (viewed l v) .state) (callOn l theory.settling v)
@@ -93,7 +88,7 @@ module _ (l : Layout) (v : Live) (p : Passing l v) where
   stop-number (stop.Damaged n c) = refl
 
   pub settle-number : settleNumber (settleOf l s m .answer) ≡ stopNumber (theory.settleAt (switchAt l v) (viewed l v) .stop)
-  settle-number = rw settle-passed (stop-number (settled .answer)
+  settle-number = rw (settle-passes l s m tests-pass) (stop-number (settled .answer)
       ∙ ap stopNumber (settle-stops l z (s .salt) (m .filter) (s .listed) (m .table) (m .packets) (m .list) (p .lent) (p .passes) (bitsOf l s m)))
 
   -- ---- hand-over
@@ -101,20 +96,9 @@ module _ (l : Layout) (v : Live) (p : Passing l v) where
     abbrev handed-on : handing.Handing
     handed-on = handing.handOf l z (s .salt) (s .listed) x (m .filter) (m .table) (m .list) (bitsOf l s m)
 
-    hand-passed : handOver l s x m ≡ handLeaves s m handed-on
-    unfolding handOver
-    hand-passed = passed (handingTo over.NotSession m) (handingTo over.BadRoom m) (handLeaves s m handed-on)
-
-    over-number : (n : ℕ) (a : Handed) → handOverNumber (handAnswer n a) ≡ handing.handNumber a
-    over-number n handed.Taken = refl
-    over-number n handed.NotInFilter = refl
-    over-number n handed.Listed = refl
-    over-number n handed.EmptyCell = refl
-    over-number n handed.TooMany = refl
-
     -- 01's number is the theory's
     pub hand-over-number : handOverNumber (handOver l s x m .answer) ≡ theory.handAnswer (switchAt l v) x (viewed l v)
-    hand-over-number = rw hand-passed (over-number (s .listed) (handed-on .answer)
+    hand-over-number = rw (hand-over-passes l s m tests-pass x) (same-number (s .listed) (handed-on .answer)
         ∙ hand-number l z (s .salt) (m .filter) (s .listed) (m .table) (m .packets) (m .list) (p .lent) (p .passes) (bitsOf l s m) x fits)
 
     same-numbers : {n : ℕ} → n ≡ s .listed → s ≡ withListed s n
@@ -130,7 +114,7 @@ module _ (l : Layout) (v : Live) (p : Passing l v) where
     hand-live : callOn l (theory.hand x) v
         ≡ live (withListed s (s .listed + takenBy (handed-on .answer))) (memory (m .filter) (handed-on .table) (m .packets) (handed-on .list))
     unfolding callOn
-    hand-live = rw hand-passed (ap (λ n. live n (memory (m .filter) (handed-on .table) (m .packets) (handed-on .list))) (listed-more (handed-on .answer)))
+    hand-live = rw (hand-over-passes l s m tests-pass x) (ap (λ n. live n (memory (m .filter) (handed-on .table) (m .packets) (handed-on .list))) (listed-more (handed-on .answer)))
 
     -- Theorem: a hand-over is the theory's
     pub hand-follows : Follows l v (theory.handOver (switchAt l v) x (viewed l v)) (callOn l (theory.hand x) v)

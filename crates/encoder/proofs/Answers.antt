@@ -1,5 +1,5 @@
 -- Each way out of the encoder's functions, over plain values; and the code's list of places is the flow's.
-use mathlib.Core.Path.{_≡_, sym, ap, _∙_}
+use mathlib.Core.Path.{_≡_, refl, sym, ap, _∙_}
 use mathlib.Core.Bool.{Bool, true, false, not}
 use mathlib.Core.List.{List}
 use Prim.Native.Nat.{ℕ, _+_, _<_}
@@ -10,7 +10,7 @@ use lib.Dec.{eqb}
 use lib.ListN.{length, getD}
 use Rattle.laws.specs.Upto.{listUpto}
 use Rattle.laws.proofs.Bools.{and-l, and-r, held, failed}
-use Rattle.laws.proofs.Upto.{any-same, each-same, list-at}
+use Rattle.laws.proofs.Upto.{any-at, steps-at, list-at}
 use Rattle.layout.specs.declared.Layout.{Layout}
 use Rattle.layout.specs.declared.Sizes.{Sizes}
 use Rattle.layout.specs.Sizes.{Lays, Ranged, inRange, ipv4Layout, tableCells, cellBytes, filterBytes}
@@ -50,10 +50,6 @@ rooms l z filter cells h = (
   eqb-true cells (cellBytes l z) (and-r (eqb filter (filterBytes z)) (eqb cells (cellBytes l z)) h),
 )
 
-pub rooms-yes : (l : Layout) (z : Sizes) (filter cells : ℕ) → RoomsFit l z filter cells → roomsFit l z filter cells ≡ true
-unfolding roomsFit
-rooms-yes l z filter cells h = rw (eq-eqb filter (filterBytes z) (h .0), eq-eqb cells (cellBytes l z) (h .1))
-
 pub rooms-filter : (l : Layout) (z : Sizes) (filter cells : ℕ) → (filter ≡ filterBytes z → ⊥) → false ≡ roomsFit l z filter cells
 unfolding roomsFit
 rooms-filter l z filter cells h = rw (ne-eqb filter (filterBytes z) h)
@@ -86,16 +82,11 @@ module _ (l : Layout) (z : Sizes) (lays : Lays l) (r : Ranged z) (salt : ℕ) (k
 
   pub full-is : (new : Bool) (cells : List ℕ) → anyFull l new cells (listUpto 4 (cellOf l z salt key)) (z .k) ≡ isFull l z salt new key cells
   unfolding anyFull isFull
-  full-is new cells =
-      any-same (z .k) (λ i. fullAt l new cells (getD (listUpto 4 (cellOf l z salt key)) i 0)) (λ i. fullAt l new cells (cellOf l z salt key i))
-      (λ i h. ap (fullAt l new cells) (place-at i h))
+  full-is new cells = any-at (z .k) (cellOf l z salt key) (fullAt l new cells) (r .k-high) refl
 
   pub each-is : (new : Bool) (cells : List ℕ) → takeEach l new key (listUpto 4 (cellOf l z salt key)) (z .k) cells ≡ takeIn l z salt new key cells
   unfolding takeEach takeIn
-  each-is new cells =
-      each-same (z .k) (λ i t. takeAt l new key (getD (listUpto 4 (cellOf l z salt key)) i 0) t)
-      (λ i t. takeAt l new key (cellOf l z salt key i) t) cells
-      (λ i t h. ap (λ c. takeAt l new key c t) (place-at i h))
+  each-is new cells = steps-at (z .k) (cellOf l z salt key) (takeAt l new key) cells (r .k-high) refl
 
   -- ---- the two ways out of take_key
   module _ (filter cells bits at : List ℕ) (new : Bool) (b : bits ≡ bitsOf z salt key) (a : at ≡ listUpto 4 (cellOf l z salt key))

@@ -1,22 +1,27 @@
 -- Exchange of two sessions: 01 'A session', "Exchange of A and B".
 use mathlib.Core.Bool.{Bool, true, not, cond, _&&_}
 use mathlib.Core.List.{List, _++_}
+use mathlib.Core.Path.{_≡_}
 use Prim.Native.Nat.{ℕ, zero, suc, _+_, _*_}
 use lib.Dec.{eqb}
-use lib.ListN.{replicate, take, drop}
+use lib.ListN.{length, replicate, take, drop}
 use Rattle.layout.specs.declared.Layout.{Layout}
 use Rattle.layout.specs.declared.Sizes.{Sizes}
-use Rattle.layout.specs.Sizes.{inRange, tableCells, filterBytes}
-use Rattle.list.specs.Records.{records}
-use Rattle.marks.specs.Marks.{wordsFor}
-use Rattle.peeling.specs.Table.{tab}
+use Rattle.layout.specs.Sizes.{Lays, Ranged, inRange, tableCells}
+use Rattle.list.specs.Records.{Records, records}
+use Rattle.peeling.specs.Table.{Tab, tab}
 use Rattle.peeling.specs.declared.Stop.{Stop}
 use Rattle.peeling.specs.declared.Stop.the-variants as stop
 use Rattle.test8.specs.Given.{seenUpto}
 use Rattle.test8.specs.Test8.{isSession}
 use Rattle.room.specs.declared.Session.{Session}
-use Rattle.room.specs.Memory.{Memory, memory, roomFits}
-use Rattle.exchange.specs.Sides.{Switch, switch, Side, side, settleSide, handList, withGiven}
+use Rattle.room.specs.Memory.{Memory, memory}
+use Rattle.parts.specs.declared.Place.{Place}
+use Rattle.parts.specs.Sides.{Switch, switch, Side, side, settleSide, handList, withGiven, Stands}
+use Rattle.parts.specs.Areas.{origin, placeAfter, Areas, areas, partAt}
+use Rattle.exchange.specs.declared.Round.{Round}
+use Rattle.exchange.specs.declared.Tested.{Tested}
+use Rattle.exchange.specs.declared.Tested.the-variants as tested
 use Rattle.exchange.specs.declared.Ending.{Ending}
 use Rattle.exchange.specs.declared.Ending.the-variants as end
 use Rattle.exchange.specs.declared.Exchanged.{Exchanged}
@@ -53,8 +58,8 @@ endingB (stop.Damaged n c) = end.DamagedB c
 -- B is settled only where A's settling went through
 unfoldable pub thenB : Layout → Switch → Side → Side → ℕ → Stop → Ended
 thenB l B a b twelves (stop.Done n) = let t = settleSide l B b in ended (endingB (t .stop)) (pair a (t .left) twelves)
-thenB l B a b twelves (stop.Full n c) = ended (end.FullA c) (pair a b twelves)
-thenB l B a b twelves (stop.Damaged n c) = ended (end.DamagedA c) (pair a b twelves)
+thenB l B a b twelves (stop.Full n c) = ended (endingA (stop.Full n c)) (pair a b twelves)
+thenB l B a b twelves (stop.Damaged n c) = ended (endingA (stop.Damaged n c)) (pair a b twelves)
 
 -- 01 'A session', Exchange: "settle A, settle B"
 unfoldable pub settleBoth : Layout → Switch → Switch → Pair → Ended
@@ -104,33 +109,71 @@ unfoldable pub exchangeSides : Layout → Switch → List ℕ → Switch → Lis
 exchangeSides l A f B g p = let r = settleBoth l A B p in thenRounds l A f B g (r .pair) (r .ending)
 
 -- ---- the call
--- the room of A, and of B after it, in the room that is lent for both; the same lengths as room's `Memory` asks for
-unfoldable pub roomA : Layout → Sizes → Memory → Memory
-roomA l z m =
-    let n = tableCells l z in
-    memory (take (filterBytes z) (m .filter))
-    (tab (take (n * l .key) (m .table .xors)) (take n (m .table .flows)) (take n (m .table .unknowns)) (take n (m .table .positions))
-    (take (wordsFor n) (m .table .marks)))
-    (take n (m .packets))
-    (records (take (2 * n * l .key) (m .list .keys)) (take (2 * n) (m .list .counts)) (take (2 * n) (m .list .flags)))
+-- where A's part ends and B's begins in the room that is lent for both, and where B's ends
+abbrev pub seam : Layout → Sizes → Place
+seam l y = placeAfter l y origin
 
-unfoldable pub roomB : Layout → Sizes → Memory → Memory
-roomB l z m =
-    let n = tableCells l z in
-    memory (drop (filterBytes z) (m .filter))
-    (tab (drop (n * l .key) (m .table .xors)) (drop n (m .table .flows)) (drop n (m .table .unknowns)) (drop n (m .table .positions))
-    (drop (wordsFor n) (m .table .marks)))
-    (drop n (m .packets))
-    (records (drop (2 * n * l .key) (m .list .keys)) (drop (2 * n) (m .list .counts)) (drop (2 * n) (m .list .flags)))
+abbrev pub roomEnd : Layout → Sizes → Sizes → Place
+roomEnd l y z = placeAfter l z (seam l y)
+
+-- 01's table of numbers, 16: "lent room of the wrong length": none is
+unfoldable pub areasFit : Place → Memory → Bool
+areasFit e m =
+    eqb (length (m .filter)) (e .filter) && (eqb (length (m .packets)) (e .cells) && (eqb (length (m .table .xors)) (e .xors)
+    && (eqb (length (m .table .flows)) (e .cells) && (eqb (length (m .table .unknowns)) (e .cells)
+    && (eqb (length (m .table .positions)) (e .cells) && (eqb (length (m .table .marks)) (e .words)
+    && (eqb (length (m .list .keys)) (e .keys) && (eqb (length (m .list .counts)) (e .records) && eqb (length (m .list .flags)) (e .records)))))))))
+
+-- the room of A, and of B after it
+unfoldable pub roomA : Place → Memory → Memory
+roomA p m =
+    memory (take (p .filter) (m .filter))
+    (tab (take (p .xors) (m .table .xors)) (take (p .cells) (m .table .flows)) (take (p .cells) (m .table .unknowns))
+    (take (p .cells) (m .table .positions)) (take (p .words) (m .table .marks)))
+    (take (p .cells) (m .packets))
+    (records (take (p .keys) (m .list .keys)) (take (p .records) (m .list .counts)) (take (p .records) (m .list .flags)))
+
+unfoldable pub roomB : Place → Memory → Memory
+roomB p m =
+    memory (drop (p .filter) (m .filter))
+    (tab (drop (p .xors) (m .table .xors)) (drop (p .cells) (m .table .flows)) (drop (p .cells) (m .table .unknowns))
+    (drop (p .cells) (m .table .positions)) (drop (p .words) (m .table .marks)))
+    (drop (p .cells) (m .packets))
+    (records (drop (p .keys) (m .list .keys)) (drop (p .records) (m .list .counts)) (drop (p .records) (m .list .flags)))
 
 -- the rooms of two sessions joined
+unfoldable pub joinedTable : Tab → Tab → Tab
+joinedTable t u = tab (t .xors ++ u .xors) (t .flows ++ u .flows) (t .unknowns ++ u .unknowns) (t .positions ++ u .positions) (t .marks ++ u .marks)
+
+unfoldable pub joinedList : Records → Records → Records
+joinedList rs vs = records (rs .keys ++ vs .keys) (rs .counts ++ vs .counts) (rs .flags ++ vs .flags)
+
 unfoldable pub joined : Memory → Memory → Memory
-joined a b =
-    memory (a .filter ++ b .filter)
-    (tab (a .table .xors ++ b .table .xors) (a .table .flows ++ b .table .flows) (a .table .unknowns ++ b .table .unknowns)
-    (a .table .positions ++ b .table .positions) (a .table .marks ++ b .table .marks))
-    (a .packets ++ b .packets)
-    (records (a .list .keys ++ b .list .keys) (a .list .counts ++ b .list .counts) (a .list .flags ++ b .list .flags))
+joined a b = memory (a .filter ++ b .filter) (joinedTable (a .table) (b .table)) (a .packets ++ b .packets) (joinedList (a .list) (b .list))
+
+-- ---- in the areas
+abbrev pub joinedSides : Side → Side → Areas
+joinedSides a b = areas (joinedTable (a .table) (b .table)) (a .packets ++ b .packets) (joinedList (a .list) (b .list)) (a .seen ++ b .seen)
+
+-- both sessions, which meet at p and end at e; so many flows are listed in each
+abbrev pub pairIn : Place → Place → ℕ → ℕ → ℕ → Areas → Pair
+pairIn p e a b twelves s = pair (partAt origin p a s) (partAt p e b s) twelves
+
+-- the numbers that a function over both sessions answers, and the areas then
+pub record Left : Type 0 where
+  pub numbers : Round
+  pub room : Areas
+
+abbrev pub left : Round → Areas → Left
+left r s = record { numbers = r; room = s }
+
+abbrev pub roundOf : ℕ → ℕ → ℕ → Ending → Round
+roundOf a b twelves ending = record { a = a; b = b; twelves = twelves; ending = ending }
+
+abbrev pub leftBy : Ended → Left
+leftBy x =
+    let p = x .pair in
+    left (roundOf (p .a .listed) (p .b .listed) (p .twelves) (x .ending)) (joinedSides (p .a) (p .b))
 
 pub record Exchanging : Type 0 where
   pub answer : Exchanged
@@ -151,8 +194,11 @@ abbrev pub switchOf : Session → Switch
 switchOf s = switch (s .sizes) (s .salt)
 
 -- a session that passed the test, with a bit for each listed key
+abbrev pub seenIn : Layout → Session → Memory → List ℕ → List ℕ
+seenIn l s m seen = seenUpto l (s .sizes) (s .salt) (s .listed) (m .list .keys) seen
+
 abbrev pub sideOf : Layout → Session → Memory → Side
-sideOf l s m = side (s .listed) (m .table) (m .packets) (m .list) (seenUpto l (s .sizes) (s .salt) (s .listed) (m .list .keys) (replicate 256 0))
+sideOf l s m = side (s .listed) (m .table) (m .packets) (m .list) (seenIn l s m (replicate 256 0))
 
 abbrev pub roomLeft : Memory → Side → Memory
 roomLeft m s = memory (m .filter) (s .table) (s .packets) (s .list)
@@ -162,17 +208,29 @@ leaves a b e =
     let p = e .pair in
     exchanging (answerOf (e .ending) (p .a .listed) (p .b .listed) (p .twelves)) (joined (roomLeft a (p .a)) (roomLeft b (p .b)))
 
--- 01's table of numbers: sizes of either (8), lengths of either (16), the rest of the test of 8 of either, two different slots (15)
-unfoldable pub exchangeOf : Layout → Session → Session → Memory → Exchanging
-exchangeOf l s t m =
-    let a = roomA l (s .sizes) m in
-    let b = roomB l (s .sizes) m in
-    cond (not (inRange (s .sizes) && inRange (t .sizes))) (exchanging exchanged.NotSession m)
-    (cond (not (roomFits l (s .sizes) a && roomFits l (t .sizes) b)) (exchanging exchanged.BadRoom m)
+-- 01's table of numbers: sizes of either (8), lengths (16), the rest of the test of 8 of either, two different slots (15)
+unfoldable pub exchangeTest : Layout → Session → Session → Memory → Tested
+exchangeTest l s t m =
+    let a = roomA (seam l (s .sizes)) m in
+    let b = roomB (seam l (s .sizes)) m in
+    cond (not (inRange (s .sizes) && inRange (t .sizes))) tested.NotSession
+    (cond (not (areasFit (roomEnd l (s .sizes) (t .sizes)) m)) tested.BadRoom
     (cond (not (isSession l (s .sizes) (s .salt) (s .listed) (a .table) (a .list)
-    && isSession l (t .sizes) (t .salt) (t .listed) (b .table) (b .list))) (exchanging exchanged.NotSession m)
-    (cond (not (eqb (s .slot) (t .slot))) (exchanging exchanged.OtherSlot m)
-    (leaves a b (exchangeSides l (switchOf s) (a .filter) (switchOf t) (b .filter) (pair (sideOf l s a) (sideOf l t b) 0))))))
+    && isSession l (t .sizes) (t .salt) (t .listed) (b .table) (b .list))) tested.NotSession
+    (cond (not (eqb (s .slot) (t .slot))) tested.OtherSlot tested.Passed)))
+
+-- 01's table of numbers, 8, 15 and 16: "all memory kept"
+unfoldable pub afterTest : Layout → Session → Session → Memory → Tested → Exchanging
+afterTest l s t m tested.NotSession = exchanging exchanged.NotSession m
+afterTest l s t m tested.BadRoom = exchanging exchanged.BadRoom m
+afterTest l s t m tested.OtherSlot = exchanging exchanged.OtherSlot m
+afterTest l s t m tested.Passed =
+    let a = roomA (seam l (s .sizes)) m in
+    let b = roomB (seam l (s .sizes)) m in
+    leaves a b (exchangeSides l (switchOf s) (a .filter) (switchOf t) (b .filter) (pair (sideOf l s a) (sideOf l t b) 0))
+
+unfoldable pub exchangeOf : Layout → Session → Session → Memory → Exchanging
+exchangeOf l s t m = afterTest l s t m (exchangeTest l s t m)
 
 -- 01's number for each answer
 abbrev pub exchangeNumber : Exchanged → ℕ
@@ -184,3 +242,23 @@ exchangeNumber (exchanged.DamagedB c a b twelves) = 14
 exchangeNumber exchanged.NotSession = 8
 exchangeNumber exchanged.OtherSlot = 15
 exchangeNumber exchanged.BadRoom = 16
+
+-- ---- what the code needs: the areas end where B's part does, and both sessions have their room
+pub record Both (l : Layout) (s t : Session) (p e : Place) (a b : ℕ) (r : Areas) : Type 0 where
+  pub lays : Lays l
+  pub ranged-a : Ranged (s .sizes)
+  pub ranged-b : Ranged (t .sizes)
+  pub seam-is : p ≡ seam l (s .sizes)
+  pub end-is : e ≡ roomEnd l (s .sizes) (t .sizes)
+  pub xors-full : length (r .table .xors) ≡ e .xors
+  pub flows-full : length (r .table .flows) ≡ e .cells
+  pub unknowns-full : length (r .table .unknowns) ≡ e .cells
+  pub positions-full : length (r .table .positions) ≡ e .cells
+  pub marks-full : length (r .table .marks) ≡ e .words
+  pub packets-full : length (r .packets) ≡ e .cells
+  pub keys-full : length (r .list .keys) ≡ e .keys
+  pub counts-full : length (r .list .counts) ≡ e .records
+  pub flags-full : length (r .list .flags) ≡ e .records
+  pub seen-full : length (r .seen) ≡ e .seen
+  pub stands-a : Stands l (switchOf s) (partAt origin p a r)
+  pub stands-b : Stands l (switchOf t) (partAt p e b r)

@@ -1,3 +1,2 @@
 -- What the exchange does to lists, and what it answers.
-pub mod Sides
 pub mod Exchange

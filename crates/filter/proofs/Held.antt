@@ -47,9 +47,6 @@ is-digit filter n = rw (mask-pow n, and-pow (getD filter (n / 8) 0) (at n))
 pub set-yes : (filter : List ℕ) (n : ℕ) → digit (getD filter (n / 8) 0) (at n) ≡ 1 → isSet filter n ≡ true
 set-yes filter n e = is-digit filter n ∙ ap not (digit-set (getD filter (n / 8) 0) (at n) e)
 
-pub set-no : (filter : List ℕ) (n : ℕ) → digit (getD filter (n / 8) 0) (at n) ≡ 0 → isSet filter n ≡ false
-set-no filter n e = is-digit filter n ∙ ap not (digit-clear (getD filter (n / 8) 0) (at n) e)
-
 -- two filters whose digits at a bit are alike
 set-like : (f g : List ℕ) (n : ℕ) → digit (getD f (n / 8) 0) (at n) ≡ digit (getD g (n / 8) 0) (at n) → isSet f n ≡ isSet g n
 set-like f g n e = is-digit f n ∙ ap (λ d. not (eqb (d * 2 ^ at n) 0)) e ∙ sym (is-digit g n)

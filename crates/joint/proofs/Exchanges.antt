@@ -1,23 +1,25 @@
 -- The exchange call on two sessions that pass the test is the theory's exchange.
 use mathlib.Core.Path.{_≡_, refl, ap, ap₂, _∙_}
-use Prim.Native.Nat.{ℕ, _*_}
-use lib.Seq.{take-at, drop-at}
+use Prim.Native.Nat.{ℕ}
+use lib.ListN.{length}
 use borrow.Author.Tests.{eq-eqb}
+use Rattle.laws.proofs.Bools.{and-i}
 use Rattle.layout.specs.declared.Layout.{Layout}
 use Rattle.layout.specs.declared.Sizes.{Sizes}
-use Rattle.layout.specs.Sizes.{tableCells, filterBytes}
-use Rattle.layout.proofs.Ranges.{range-test}
-use Rattle.marks.specs.Marks.{wordsFor}
+use Rattle.layout.specs.Sizes.{filterBytes, inRange}
 use Rattle.room.specs.Memory.{Memory, Rooms}
-use Rattle.exchange.specs.Sides as sides
-use Rattle.exchange.specs.Exchange.{Ended, exchangeSides, exchangeOf, leaves, answerOf, switchOf, sideOf, roomLeft, pair, exchangeNumber, joined, roomA, roomB}
+use Rattle.parts.specs.Sides as sides
+use Rattle.exchange.specs.Exchange.{Ended, seam, roomA, roomB, joined, exchangeSides, afterTest, exchangeOf, leaves, answerOf, switchOf, sideOf, roomLeft, pair, exchangeNumber}
 use Rattle.exchange.specs.declared.Ending.{Ending}
 use Rattle.exchange.specs.declared.Ending.the-variants as end
+use Rattle.exchange.proofs.Rooms.{joined-fits, joined-a, joined-b}
+use Rattle.exchange.proofs.Tests.{tested-passed}
 use Rattle.theory.specs.Settle.{stopNumber}
 use Rattle.theory.specs.Exchange as theory
+use Rattle.link.specs.Held.{Lent}
 use Rattle.demands.specs.Calls.{Live, live, withListed, viewed, switchAt, Passing}
 use Rattle.joint.specs.Exchanges.{listedA, listedB, twelvesOf, exchangeOn, pairBefore, pairAfter}
-use Rattle.demands.proofs.Steps.{rooms}
+use Rattle.demands.proofs.Steps.{tests-pass}
 use Rattle.joint.proofs.Pairs.{EndShows, endingAs, exchange-shows}
 
 -- the numbers of an answer
@@ -48,45 +50,9 @@ endNumber theory.finished = 0
 endNumber (theory.stoppedA s) = stopNumber s
 endNumber (theory.stoppedB s) = stopNumber s
 
--- ---- the room of each in the room of both
-module _ (l : Layout) (z : Sizes) (a b : Memory) (r : Rooms l z a) where
-  joined-a : roomA l z (joined a b) ≡ a
-  unfolding roomA joined
-  joined-a = λ i. record {
-    filter = take-at (a .filter) (b .filter) (filterBytes z) (r .filter-fits) i;
-    table = record {
-      xors = take-at (a .table .xors) (b .table .xors) (tableCells l z * l .key) (r .table .xors-fit) i;
-      flows = take-at (a .table .flows) (b .table .flows) (tableCells l z) (r .table .flows-fit) i;
-      unknowns = take-at (a .table .unknowns) (b .table .unknowns) (tableCells l z) (r .table .unknowns-fit) i;
-      positions = take-at (a .table .positions) (b .table .positions) (tableCells l z) (r .table .positions-fit) i;
-      marks = take-at (a .table .marks) (b .table .marks) (wordsFor (tableCells l z)) (r .table .marks-fit) i;
-    };
-    packets = take-at (a .packets) (b .packets) (tableCells l z) (r .packets-fit) i;
-    list = record {
-      keys = take-at (a .list .keys) (b .list .keys) (2 * tableCells l z * l .key) (r .room .keys-fit) i;
-      counts = take-at (a .list .counts) (b .list .counts) (2 * tableCells l z) (r .room .counts-fit) i;
-      flags = take-at (a .list .flags) (b .list .flags) (2 * tableCells l z) (r .room .flags-fit) i;
-    };
-  }
-
-  joined-b : roomB l z (joined a b) ≡ b
-  unfolding roomB joined
-  joined-b = λ i. record {
-    filter = drop-at (a .filter) (b .filter) (filterBytes z) (r .filter-fits) i;
-    table = record {
-      xors = drop-at (a .table .xors) (b .table .xors) (tableCells l z * l .key) (r .table .xors-fit) i;
-      flows = drop-at (a .table .flows) (b .table .flows) (tableCells l z) (r .table .flows-fit) i;
-      unknowns = drop-at (a .table .unknowns) (b .table .unknowns) (tableCells l z) (r .table .unknowns-fit) i;
-      positions = drop-at (a .table .positions) (b .table .positions) (tableCells l z) (r .table .positions-fit) i;
-      marks = drop-at (a .table .marks) (b .table .marks) (wordsFor (tableCells l z)) (r .table .marks-fit) i;
-    };
-    packets = drop-at (a .packets) (b .packets) (tableCells l z) (r .packets-fit) i;
-    list = record {
-      keys = drop-at (a .list .keys) (b .list .keys) (2 * tableCells l z * l .key) (r .room .keys-fit) i;
-      counts = drop-at (a .list .counts) (b .list .counts) (2 * tableCells l z) (r .room .counts-fit) i;
-      flags = drop-at (a .list .flags) (b .list .flags) (2 * tableCells l z) (r .room .flags-fit) i;
-    };
-  }
+-- lists of a session's lengths are its room
+lent-rooms : (l : Layout) (z : Sizes) (m : Memory) → Lent l z (m .table) (m .packets) (m .list) → length (m .filter) ≡ filterBytes z → Rooms l z m
+lent-rooms l z m h f = record { filter-fits = f; packets-fit = h .packets-fit; table = h .table; room = h .room }
 
 pair-path : {p q : theory.Pair} → p .a ≡ q .a → p .b ≡ q .b → p .twelves ≡ q .twelves → p ≡ q
 pair-path a b t = λ i. record { a = a i; b = b i; twelves = t i }
@@ -102,22 +68,28 @@ module _ (l : Layout) (u v : Live) (pu : Passing l u) (pv : Passing l v) (slots 
   done = exchangeSides l A (u .room .filter) B (v .room .filter) (pair (sideOf l (u .numbers) (u .room)) (sideOf l (v .numbers) (v .room)) 0)
 
   rooms-a : Rooms l (u .numbers .sizes) (u .room)
-  rooms-a = record { filter-fits = pu .filter-fits; packets-fit = pu .lent .packets-fit; table = pu .lent .table; room = pu .lent .room }
+  rooms-a = lent-rooms l (u .numbers .sizes) (u .room) (pu .lent) (pu .filter-fits)
+
+  rooms-b : Rooms l (v .numbers .sizes) (v .room)
+  rooms-b = lent-rooms l (v .numbers .sizes) (v .room) (pv .lent) (pv .filter-fits)
+
+  abbrev together : Memory
+  together = joined (u .room) (v .room)
+
+  is-a : roomA (seam l (u .numbers .sizes)) together ≡ u .room
+  is-a = joined-a l (u .numbers .sizes) (u .room) (v .room) rooms-a
+
+  is-b : roomB (seam l (u .numbers .sizes)) together ≡ v .room
+  is-b = joined-b l (u .numbers .sizes) (u .room) (v .room) rooms-a
 
   -- nothing is refused
   exchange-passed : exchangeOn l u v ≡ leaves (u .room) (v .room) done
-  unfolding exchangeOf
-  exchange-passed = rw (
-    joined-a l (u .numbers .sizes) (u .room) (v .room) rooms-a,
-    joined-b l (u .numbers .sizes) (u .room) (v .room) rooms-a,
-    range-test (u .numbers .sizes) (pu .lent .table .ranged),
-    range-test (v .numbers .sizes) (pv .lent .table .ranged),
-    rooms l u pu,
-    rooms l v pv,
-    pu .passes,
-    pv .passes,
-    eq-eqb (u .numbers .slot) (v .numbers .slot) slots,
-  )
+  unfolding exchangeOf afterTest
+  exchange-passed =
+      let sizes = and-i (inRange (u .numbers .sizes)) (inRange (v .numbers .sizes)) (tests-pass l u pu .sizes) (tests-pass l v pv .sizes) in
+      let fits = joined-fits l (u .numbers .sizes) (u .room) (v .room) rooms-a (v .numbers .sizes) rooms-b in
+      let slot = eq-eqb (u .numbers .slot) (v .numbers .slot) slots in
+      rw (tested-passed l (u .numbers) (v .numbers) together sizes fits (rw (is-a, is-b, pu .passes, pv .passes)) slot, is-a, is-b)
 
   abbrev result : theory.Exchanged
   result = theory.exchange (switchAt l u) (switchAt l v) (pairBefore l u v)
@@ -137,9 +109,7 @@ module _ (l : Layout) (u v : Live) (pu : Passing l u) (pv : Passing l v) (slots 
   leftB = roomLeft (v .room) (done .pair .b)
 
   left-rooms : Rooms l (u .numbers .sizes) leftA
-  left-rooms =
-      let h = shown .pair-shows .shows-a .lent in
-      record { filter-fits = pu .filter-fits; packets-fit = h .packets-fit; table = h .table; room = h .room }
+  left-rooms = lent-rooms l (u .numbers .sizes) leftA (shown .pair-shows .shows-a .lent) (pu .filter-fits)
 
   -- Theorem: what the call leaves is what the theory's exchange leaves
   pub exchange-pair : pairAfter l u v ≡ result .pair

@@ -26,8 +26,8 @@ use Rattle.test8.proofs.Passed.{peeled-few, listed-few}
 use Rattle.handing.specs.declared.Handed.{Handed}
 use Rattle.handing.specs.declared.Handed.the-variants.{Taken, NotInFilter, Listed, EmptyCell, TooMany}
 use Rattle.handing.specs.Hand.{handOf, handNumber}
-use Rattle.exchange.specs.Sides as sides
-use Rattle.exchange.specs.Sides.{Side, settleSide, Given, given, twelveBy, handAt, handKeys, handList, withGiven}
+use Rattle.parts.specs.Sides as sides
+use Rattle.parts.specs.Sides.{Side, settleSide, Given, given, twelveBy, handAt, handKeys, handList, withGiven}
 use Rattle.exchange.specs.Exchange as lists
 use Rattle.exchange.specs.declared.Ending.the-variants as end
 use Rattle.exchange.specs.declared.Ending.{Ending}

@@ -3,7 +3,7 @@ use Prim.Native.Nat.{ℕ}
 use Rattle.layout.specs.declared.Layout.{Layout}
 use Rattle.exchange.specs.declared.Exchanged.{Exchanged}
 use Rattle.exchange.specs.declared.Exchanged.the-variants as exchanged
-use Rattle.exchange.specs.Exchange.{Exchanging, exchangeOf, joined, roomA, roomB}
+use Rattle.exchange.specs.Exchange.{Exchanging, exchangeOf, joined, seam, roomA, roomB}
 use Rattle.theory.specs.Exchange.{Pair}
 use Rattle.demands.specs.Calls.{Live, live, withListed, viewed}
 
@@ -49,7 +49,7 @@ abbrev pub pairAfter : Layout → Live → Live → Pair
 pairAfter l u v =
     let x = exchangeOn l u v in
     record {
-      a = viewed l (live (withListed (u .numbers) (listedA (x .answer) (u .numbers .listed))) (roomA l (u .numbers .sizes) (x .room)));
-      b = viewed l (live (withListed (v .numbers) (listedB (x .answer) (v .numbers .listed))) (roomB l (u .numbers .sizes) (x .room)));
+      a = viewed l (live (withListed (u .numbers) (listedA (x .answer) (u .numbers .listed))) (roomA (seam l (u .numbers .sizes)) (x .room)));
+      b = viewed l (live (withListed (v .numbers) (listedB (x .answer) (v .numbers .listed))) (roomB (seam l (u .numbers .sizes)) (x .room)));
       twelves = twelvesOf (x .answer);
     }

@@ -186,26 +186,9 @@ module _ (new places : ℕ → ℕ) where
   -- where the places differ, each is renewed once, and no other number
   pub renew-at : (k : ℕ) (s : List ℕ) → ((i : ℕ) → i < k → places i < length s) → ((i j : ℕ) → (i ≡ j → ⊥) → places i ≡ places j → ⊥)
       → (c : ℕ) → getD (renew k s) c 0 ≡ cond (anyUpto k (λ i. eqb (places i) c)) (new (getD s c 0)) (getD s c 0)
-  unfolding eachUpto anyUpto
-  renew-at zero s within differ c = refl
-  renew-at (suc k) s within differ c =
-      let before = renew-at k s (λ i h. within i (omega arith)) differ in
-      elim (ℕ-discrete c (places k)) [
-        | yes e ↦
-            let none = any-no k (λ i. eqb (places i) (places k)) (λ i h. ne-eqb (places i) (places k) (differ i k (λ q. omega arith))) in
-            let same : getD (renew k s) (places k) 0 ≡ getD s (places k) 0 = before (places k) ∙ rw none in
-            rw (
-              e,
-              none,
-              eq-eqb (places k) (places k) refl,
-              getD-set-same (renew k s) (places k) (new (getD (renew k s) (places k) 0)) 0
-                  (omega (arith, length-renew k s, within k (omega arith))),
-              same,
-            )
-        | no d ↦
-            rw (
-              getD-set-other (renew k s) (places k) c (new (getD (renew k s) (places k) 0)) 0 d,
-              ne-eqb (places k) c (λ q. d (sym q)),
-              or-f (anyUpto k (λ i. eqb (places i) c)),
-            ) (before c)
-      ]
+  renew-at k s within differ = each-at (λ t. length t ≡ length s) (λ t c. getD t c 0) (λ c. new) places
+      (λ i t. set t (places i) (new (getD t (places i) 0))) k differ
+      (λ i t h e. length-set t (places i) (new (getD t (places i) 0)) ∙ e)
+      (λ i t h e. getD-set-same t (places i) (new (getD t (places i) 0)) 0 (omega (arith, e, within i h)))
+      (λ i t c h e d. getD-set-other t (places i) c (new (getD t (places i) 0)) 0 d)
+      s refl

@@ -12,7 +12,8 @@ use Rattle.packet.specs.Key.{InRange}
 use Rattle.summary.specs.declared.Report.{Report}
 use Rattle.summary.specs.declared.State.{State}
 use Rattle.summary.specs.declared.State.the-variants.{Stuck, Short, Whole}
-use Rattle.lines.specs.Text.{Put, space, dot, feed, decimal, followed, spaced, dotted, endpoint, countText, flowLine, stateText, reportText, headLine, refusedLine}
+use Rattle.lines.specs.Text.{Put, space, dot, feed, decimal, followed, spaced, dotted}
+use Rattle.lines.specs.Text.{endpoint, countText, flowLine, stateText, reportText, headLine, refusedLine}
 use Rattle.laws.proofs.Lists.{sets-append}
 use Rattle.lines.proofs.Decimal.{decimal-le}
 

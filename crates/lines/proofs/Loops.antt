@@ -70,7 +70,8 @@ written-more {out = out} {n = n} {left = left} {to = to} {v = v} h e f c = recor
   text = digit-put n left to out h e f ∙ c .text;
 }
 
-pub written-all : {s out : List ℕ} {at n left to : ℕ} → at + length (decimal n) ≤ length s → left ≤ 0 → Written s at n out left to → Put s out at to (decimal n)
+pub written-all : {s out : List ℕ} {at n left to : ℕ} → at + length (decimal n) ≤ length s → left ≤ 0 → Written s at n out left to → Put s out at to
+    (decimal n)
 unfolding digits
 written-all {left = zero} f h c = record { place = omega (arith, c .place); inside = omega (arith, c .place); bytes = c .text }
 written-all {left = suc w} f h c = absurd (omega arith)

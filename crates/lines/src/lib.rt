@@ -4,7 +4,8 @@ ghost use mathlib.Core.Path.{_≡_};
 ghost use mathlib.Core.List.{[], _∷_};
 ghost use Prim.Native.Nat.{_+_, _^_, _≤_};
 ghost use lib.ListN.{length};
-ghost use Rattle.lines.specs.Text.{Put, width, decimal, followed, dotted, endpoint, countText, flowLine, stateText, reportText, headLine, refusedLine};
+ghost use Rattle.lines.specs.Text.{Put, width, decimal, followed, dotted, endpoint, countText};
+ghost use Rattle.lines.specs.Text.{flowLine, stateText, reportText, headLine, refusedLine};
 use packet::Key;
 use summary::Report;
 use summary::State;
@@ -69,7 +70,7 @@ fn put_decimal(out: &mut [u8], at: usize, n: u64) -> usize
     while 0 < left {
         left -= 1;
         let digit = n / ten_to(left) % 10;
-        out[to] = 48 + (digit as u8);
+        out[to] = b'0' + (digit as u8);
         to += 1;
     }
     to
@@ -90,9 +91,9 @@ fn put_dotted(out: &mut [u8], at: usize, address: u32) -> usize
     ensures { λ r. ⌜ Put (now (out .entry)) (now (out .exit)) at r (dotted address) ⌝ }
 {
     let a = address as u64;
-    let second = put_followed(out, at, a / 16777216, 46);
-    let third = put_followed(out, second, a / 65536 % 256, 46);
-    let fourth = put_followed(out, third, a / 256 % 256, 46);
+    let second = put_followed(out, at, a / 16777216, b'.');
+    let third = put_followed(out, second, a / 65536 % 256, b'.');
+    let fourth = put_followed(out, third, a / 256 % 256, b'.');
     put_decimal(out, fourth, a % 256)
 }
 
@@ -104,8 +105,8 @@ fn put_endpoint(out: &mut [u8], at: usize, address: u32, port: u16) -> usize
     ensures { λ r. ⌜ Put (now (out .entry)) (now (out .exit)) at r (endpoint address port) ⌝ }
 {
     let end = put_dotted(out, at, address);
-    let next = put_byte(out, end, 32);
-    put_followed(out, next, port as u64, 32)
+    let next = put_byte(out, end, b' ');
+    put_followed(out, next, port as u64, b' ')
 }
 
 // Writes a count, or a question mark where it is not known.
@@ -116,7 +117,7 @@ fn put_count(out: &mut [u8], at: usize, known: bool, count: u32) -> usize
     if known {
         return put_decimal(out, at, count as u64);
     }
-    put_byte(out, at, 63)
+    put_byte(out, at, b'?')
 }
 
 // Writes the line of a flow.
@@ -126,9 +127,9 @@ pub fn put_flow(out: &mut [u8], at: usize, key: Key, known: bool, count: u32) ->
 {
     let to = put_endpoint(out, at, key.source, key.sport);
     let protocol = put_endpoint(out, to, key.destination, key.dport);
-    let counted = put_followed(out, protocol, key.protocol as u64, 32);
+    let counted = put_followed(out, protocol, key.protocol as u64, b' ');
     let end = put_count(out, counted, known, count);
-    put_byte(out, end, 10)
+    put_byte(out, end, b'\n')
 }
 
 // ---- the first line, and a refusal's
@@ -138,9 +139,9 @@ fn word_of(state: State) -> [u8; 5]
     ensures { λ r. ⌜ r ≡ stateText state ⌝ }
 {
     match state {
-        State::Stuck => [115, 116, 117, 99, 107],
-        State::Short => [115, 104, 111, 114, 116],
-        State::Whole => [119, 104, 111, 108, 101],
+        State::Stuck => [b's', b't', b'u', b'c', b'k'],
+        State::Short => [b's', b'h', b'o', b'r', b't'],
+        State::Whole => [b'w', b'h', b'o', b'l', b'e'],
     }
 }
 
@@ -149,13 +150,13 @@ fn put_report(out: &mut [u8], at: usize, report: Report) -> usize
     requires { ⌜ at + length (reportText report) ≤ length (now out) ⌝ }
     ensures { λ r. ⌜ Put (now (out .entry)) (now (out .exit)) at r (reportText report) ⌝ }
 {
-    let counted = put_followed(out, at, report.listed as u64, 32);
-    let opens = put_followed(out, counted, report.counted as u64, 32);
-    let next = put_followed(out, opens, report.opens as u64, 32);
+    let counted = put_followed(out, at, report.listed as u64, b' ');
+    let opens = put_followed(out, counted, report.counted as u64, b' ');
+    let next = put_followed(out, opens, report.opens as u64, b' ');
     let state = report.state;
     let word = word_of(state);
     let end = put_bytes(out, next, &word);
-    put_byte(out, end, 10)
+    put_byte(out, end, b'\n')
 }
 
 // Writes the line of slot, salt and report.
@@ -163,8 +164,8 @@ pub fn put_head(out: &mut [u8], at: usize, slot: u32, salt: u32, report: Report)
     requires { ⌜ at + length (headLine slot salt report) ≤ length (now out) ⌝ }
     ensures { λ r. ⌜ Put (now (out .entry)) (now (out .exit)) at r (headLine slot salt report) ⌝ }
 {
-    let second = put_followed(out, at, slot as u64, 32);
-    let third = put_followed(out, second, salt as u64, 32);
+    let second = put_followed(out, at, slot as u64, b' ');
+    let third = put_followed(out, second, salt as u64, b' ');
     put_report(out, third, report)
 }
 
@@ -174,5 +175,5 @@ pub fn put_refused(out: &mut [u8], at: usize, number: u8) -> usize
     ensures { λ r. ⌜ Put (now (out .entry)) (now (out .exit)) at r (refusedLine number) ⌝ }
 {
     let end = put_bytes(out, at, b"refused ");
-    put_followed(out, end, number as u64, 10)
+    put_followed(out, end, number as u64, b'\n')
 }

@@ -16,15 +16,13 @@ use Rattle.counting.specs.Book.{Book, readyAt, toldOut}
 use Rattle.counting.specs.Count.{Counted, Ended, afterCount, countOf, countsUpto}
 use Rattle.counting.specs.declared.Stop as counting
 use Rattle.counting.specs.declared.Stop.the-variants as stop
-use Rattle.theory.specs.Flow.{Distinct}
 use Rattle.theory.specs.Encode.{Placement}
-use Rattle.theory.specs.Session.{Session, keysOf, ready}
+use Rattle.theory.specs.Session.{Session, ready}
 use Rattle.theory.specs.Settle.{Step, quiet, full, damaged, next, settled, damage, afterStep, repeat}
 use Rattle.theory.specs.Settle as theory
 use Rattle.theory.specs.Notes.{Notes, Noted, positionsIn, scan, noted, mapStep, mapResult, readyBy, countNoted}
 use Rattle.theory.proofs.Single.{ready-one}
 use Rattle.theory.proofs.Positions.{positions-one}
-use Rattle.theory.proofs.Repeat.{repeat-map}
 use Rattle.theory.proofs.Noted.{count-noted, distinct-count}
 use Rattle.link.specs.View.{below, recordAt, recordsOf, sessionOf, numbersOf, notedOf}
 use Rattle.link.specs.Held.{Held, Ready, Named, Sound, withBook}
@@ -127,13 +125,6 @@ module _ (l : Layout) (z : Sizes) (salt n : ℕ) (t : Tab) where
   counts-is zero b rs s = ap (λ u. record { state = u; stop = settled }) (noted-is b rs s)
   counts-is (suc m) b rs s =
       turn m b rs s (counts-is m) (theory.countStep (tableCells l z) has (sessionAt b rs)) refl (counting l z salt n (t .flows) b rs) (step-is b rs s)
-
-  -- and so of the theory by the per-cell numbers that stand there
-  pub counts-noted : (m : ℕ) (b : Book) (rs : Records) → Sound l z salt n t b rs
-      → countedAs l z n t (countsUpto m l z salt n (t .flows) b rs) ≡ repeat (countNoted (tableCells l z) has) m (notedAt b rs)
-  counts-noted m b rs s = counts-is m b rs s ∙ sym (ap (repeat (countNoted (tableCells l z) has) m) (noted-is b rs s)
-      ∙ repeat-map (theory.countStep (tableCells l z) has) (countNoted (tableCells l z) has) (noted has) (λ u. Distinct (keysOf (u .list)))
-      (distinct-count (tableCells l z) has) (count-noted (tableCells l z) has) m (sessionAt b rs) (s .apart))
 
   -- the lists that they leave
   abbrev HeldAt : Ended → Type 0

@@ -1,5 +1,5 @@
 -- From working memory to a session: opened on these cells, it is the theory's session of the flows taken.
-use mathlib.Core.Path.{_≡_, sym, ap, subst}
+use mathlib.Core.Path.{_≡_, ap}
 use mathlib.Core.Bool.{not}
 use mathlib.Core.List.{List}
 use Prim.Native.Nat.{ℕ, _<_}
@@ -12,12 +12,9 @@ use Rattle.hash.specs.Places.{cellOf, hasCell}
 use Rattle.hash.proofs.Apart.{cell-within, has-own, has-within}
 use Rattle.theory.specs.Encode.{Taken, flowsOf, packetsOf, NeverMistaken}
 use Rattle.theory.specs.Session.{opened}
-use Rattle.theory.specs.Settle.{settled}
-use Rattle.theory.specs.HandOver.{Switch, Call, calls, settleAt}
+use Rattle.theory.specs.HandOver.{Switch}
 use Rattle.theory.specs.Invariant.{Placed, Counted, received}
-use Rattle.theory.specs.Demands.{HandedCounted, Yields}
 use Rattle.theory.specs.Exchange.{PassesOwn}
-use Rattle.theory.proofs.Demands.{demand-2, answers-0}
 use Rattle.meaning.specs.View.{tableOf, placementOf, switchOf}
 use Rattle.meaning.specs.Meaning.{Memory, Means}
 
@@ -48,14 +45,3 @@ module _ (l : Layout) (z : Sizes) (lays : Lays l) (r : Ranged z) (salt : ℕ) wh
       -- Theorem: the session opened on the cells is that of the flows taken
       pub memory-received : opened (tableOf l z (m .cells)) ≡ received switch countedHere
       memory-received = ap opened (means .clean-memory clean)
-
-      -- Theorem (demand 2, from the memory): settling after any calls meets no damage, and yields the flows taken
-      pub memory-yields : (later : List Call) → HandedCounted (flowsOf taken) (calls switch later (opened (tableOf l z (m .cells))))
-          → let end = settleAt switch (calls switch later (opened (tableOf l z (m .cells)))) in
-          (end .stop ≡ settled) × Yields (placementOf l z salt) (flowsOf taken) (packetsOf taken) (end .state)
-      memory-yields later = subst
-          (λ s. HandedCounted (flowsOf taken) (calls switch later s)
-          → (settleAt switch (calls switch later s) .stop ≡ settled)
-          × Yields (placementOf l z salt) (flowsOf taken) (packetsOf taken) (settleAt switch (calls switch later s) .state))
-          (sym memory-received)
-          (λ ours. (answers-0 switch countedHere later ours, demand-2 switch countedHere later ours))

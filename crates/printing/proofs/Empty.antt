@@ -72,7 +72,8 @@ module _ (l : Layout) (z : Sizes) (salt : ℕ) (xors flows : List ℕ) (none : (
   marks-none =
       let k = wordsFor (tableCells l z) in
       each-keeps (λ (s : List ℕ). s ≡ zeros k) (tableCells l z) _ (zeros k) refl
-      (λ c s h e. ap₂ (λ (x : List ℕ) (b : Bool). putMark x c b) e (sym (pure-no l z salt xors flows c (λ q. omega (arith, none c h)))) ∙ put-zeros k c)
+      (λ c s h e. ap₂ (λ (x : List ℕ) (b : Bool). putMark x c b) e (sym (pure-no l z salt xors flows c (λ q. omega (arith, none c h))))
+      ∙ put-zeros k c)
 
 first-zeros : (k : ℕ) → firstMark (zeros k) ≡ 64 * k
 unfolding firstMark

@@ -6,7 +6,6 @@ use Prim.Native.Nat.{ℕ, _<_}
 use native.Mathlib.Omega.{arith}
 use types.Run.{OneOf}
 use denote.Enum.Declared.{tagOf}
-use Rattle.layout.specs.declared.Sizes.{Sizes}
 use Rattle.layout.specs.Sizes.{Ranged, ipv4Layout}
 use Rattle.layout.proofs.Ranges.{lays-ipv4}
 use Rattle.image.specs.declared.Reading.{Reading}
@@ -23,13 +22,13 @@ use Rattle.opening.specs.Open.{Opening, opening, openRead, openOf, openNumber}
 use Rattle.opening.proofs.Opened as declared
 use Rattle.opening.proofs.Answers.{open-done, open-read}
 use Rattle.lines.specs.Text.{refusedLine}
-use Rattle.printing.specs.Print.{sessionLines, readLines, imageLines, sizesRead}
+use Rattle.printing.specs.Print.{sessionLines, readLines, imageLines, leastSizes, sizesRead}
 
 -- the sizes that room is made by are in their ranges
 pub sizes-ranged : (image : List ℕ) (slot : ℕ) → Ranged (sizesRead (readOf ipv4Layout image slot))
 sizes-ranged image slot = go (readOf ipv4Layout image slot) refl
   where
-    least : Ranged (record { kf = 1; f = 1; k = 2; q = 1 })
+    least : Ranged leastSizes
     least = record {
       kf-low = omega arith;
       kf-high = omega arith;
@@ -51,7 +50,7 @@ sizes-ranged image slot = go (readOf ipv4Layout image slot) refl
 
 -- where no image is read, they are the least
 pub sizes-least : (r : Reading) → OneOf (1 ∷ 2 ∷ 3 ∷ 4 ∷ 5 ∷ []) (tagOf reading.the-type r)
-    → _≡_ {A = Sizes} (record { kf = 1; f = 1; k = 2; q = 1 }) (sizesRead r)
+    → leastSizes ≡ sizesRead r
 sizes-least (read.Image z salt) h =
     absurd
     (⊎-elim (λ e. omega arith)

@@ -57,6 +57,7 @@ readLines slot image (read.Form n) = refusedLine (readNumber (read.Form n))
 readLines slot image (read.Mixed n) = refusedLine (readNumber (read.Mixed n))
 readLines slot image read.Stale = refusedLine (readNumber read.Stale)
 
+-- the lines of an image that is wanted of a slot
 unfoldable pub imageLines : ℕ → List ℕ → List ℕ
 imageLines slot image = readLines slot image (readOf ipv4Layout image slot)
 
@@ -65,13 +66,16 @@ unfoldable pub printed : List ℕ → List ℕ
 printed input = cond (ltb (length input) 4) (refusedLine 1) (imageLines (field 4 input 0) (drop 4 input))
 
 -- the sizes by which room is made: the image's, and the least where none is read
+abbrev pub leastSizes : Sizes
+leastSizes = record { kf = 1; f = 1; k = 2; q = 1 }
+
 abbrev pub sizesRead : Reading → Sizes
 sizesRead (read.Image z salt) = z
-sizesRead read.Length = record { kf = 1; f = 1; k = 2; q = 1 }
-sizesRead (read.Check n) = record { kf = 1; f = 1; k = 2; q = 1 }
-sizesRead (read.Form n) = record { kf = 1; f = 1; k = 2; q = 1 }
-sizesRead (read.Mixed n) = record { kf = 1; f = 1; k = 2; q = 1 }
-sizesRead read.Stale = record { kf = 1; f = 1; k = 2; q = 1 }
+sizesRead read.Length = leastSizes
+sizesRead (read.Check n) = leastSizes
+sizesRead (read.Form n) = leastSizes
+sizesRead (read.Mixed n) = leastSizes
+sizesRead read.Stale = leastSizes
 
 -- room for an image of any sizes: 01 'Keys and hashing', "F from 1 to 16 filter blocks", "at most 1,536" cells; 'A session', 2 N records
 pub record Largest (m : Memory) : Type 0 where

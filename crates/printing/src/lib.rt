@@ -102,6 +102,7 @@ fn put_listed(
 
 // ---- numbers of refusals
 
+// The number of what opening answers.
 fn open_number(o: Opened) -> u8
     ensures { λ n. ⌜ n ≡ openNumber o ⌝ }
 {
@@ -116,6 +117,7 @@ fn open_number(o: Opened) -> u8
     }
 }
 
+// The number of what settling answers.
 fn settle_number(e: Settled) -> u8
     ensures { λ n. ⌜ n ≡ settleNumber e ⌝ }
 {

@@ -227,21 +227,6 @@ fn fill_words(source: &[u8], from: usize, s: &mut [u64]) -> usize {
     at
 }
 
-// The next number of the generator.
-fn next_seed(x: u32) -> u32 {
-    (((x as u64) * 1664525 + 1013904223) % 4294967296) as u32
-}
-
-fn fill_random(s: &mut [u8], seed: u32) {
-    let mut x = seed;
-    let mut i = 0;
-    while i < s.len() {
-        x = next_seed(x);
-        s[i] = (x / 16777216) as u8;
-        i += 1;
-    }
-}
-
 fn fill_memory(
     elements: &[u8],
     filter: &mut [u8],
@@ -267,54 +252,13 @@ fn fill_memory(
     fill_bytes(elements, i, flags);
 }
 
-// ---- writing
-fn say(bytes: &[u8]) {
-    io::write_all(STDOUT_FILENO, bytes);
-}
-
-fn say_number(n: u64) {
-    io::print_decimal(STDOUT_FILENO, n);
-}
-
-// A space, then a number.
-fn say_next(n: u64) {
-    say(b" ");
-    say_number(n);
-}
-
-// One hexadecimal digit.
-fn digit(x: u8) -> u8 {
-    let d = x % 16;
-    if d < 10 {
-        return 48 + d;
-    }
-    87 + d
-}
-
 // A space, and a dot where nothing follows.
 fn say_gap(n: usize) {
     if n == 0 {
-        say(b" .");
+        telling::say(b" .");
         return;
     }
-    say(b" ");
-}
-
-// Bytes in hexadecimal, up to 40,960 of them.
-fn say_bytes(s: &[u8]) {
-    say_gap(s.len());
-    let mut text = [0u8; 81920];
-    let mut i = 0;
-    while i < s.len() {
-        if 40960 <= i {
-            return;
-        }
-        text[2 * i] = digit(s[i] / 16);
-        text[2 * i + 1] = digit(s[i]);
-        i += 1;
-    }
-    let n = 2 * i;
-    say(&text[..n]);
+    telling::say(b" ");
 }
 
 fn say_short(x: u16) {
@@ -364,38 +308,38 @@ fn say_memory(
     counts: &[u32],
     flags: &[u8],
 ) {
-    say_bytes(filter);
-    say_bytes(xors);
+    telling::say_buffer(filter);
+    telling::say_buffer(xors);
     say_shorts(flows);
     say_longs(packets);
     say_shorts(unknowns);
     say_shorts(positions);
     say_words(marks);
-    say_bytes(keys);
+    telling::say_buffer(keys);
     say_longs(counts);
-    say_bytes(flags);
+    telling::say_buffer(flags);
 }
 
 fn say_two(number: u64, n: usize) {
-    say_number(number);
-    say_next(n as u64);
+    telling::say_number(number);
+    telling::say_next(n as u64);
 }
 
 fn say_three(number: u64, m: usize, n: usize) {
     say_two(number, m);
-    say_next(n as u64);
+    telling::say_next(n as u64);
 }
 
 fn say_session(s: Session) {
     let z = s.sizes;
-    say(b"0 0");
-    say_next(z.kf as u64);
-    say_next(z.f as u64);
-    say_next(z.k as u64);
-    say_next(z.q as u64);
-    say_next(s.salt as u64);
-    say_next(s.slot as u64);
-    say_next(s.listed as u64);
+    telling::say(b"0 0");
+    telling::say_next(z.kf as u64);
+    telling::say_next(z.f as u64);
+    telling::say_next(z.k as u64);
+    telling::say_next(z.q as u64);
+    telling::say_next(s.salt as u64);
+    telling::say_next(s.slot as u64);
+    telling::say_next(s.listed as u64);
 }
 
 fn say_opened(a: Opened) {
@@ -412,15 +356,15 @@ fn say_opened(a: Opened) {
 
 fn say_state(s: State) {
     match s {
-        State::Stuck => say(b" stuck"),
-        State::Short => say(b" short"),
-        State::Whole => say(b" whole"),
+        State::Stuck => telling::say(b" stuck"),
+        State::Short => telling::say(b" short"),
+        State::Whole => telling::say(b" whole"),
     }
 }
 
 fn say_report(t: Report) {
     say_three(0, t.listed, t.counted);
-    say_next(t.opens as u64);
+    telling::say_next(t.opens as u64);
     let s = t.state;
     say_state(s);
 }
@@ -428,8 +372,8 @@ fn say_report(t: Report) {
 fn say_reported(a: Reported) {
     match a {
         Reported::Told(t) => say_report(t),
-        Reported::NotSession => say_number(8),
-        Reported::BadRoom => say_number(16),
+        Reported::NotSession => telling::say_number(8),
+        Reported::BadRoom => telling::say_number(16),
     }
 }
 
@@ -438,20 +382,20 @@ fn say_settled(a: Settled) {
         Settled::Done { listed } => say_two(0, listed),
         Settled::Full { listed, cell } => say_three(13, listed, cell),
         Settled::Damaged { listed, cell } => say_three(14, listed, cell),
-        Settled::NotSession => say_number(8),
-        Settled::BadRoom => say_number(16),
+        Settled::NotSession => telling::say_number(8),
+        Settled::BadRoom => telling::say_number(16),
     }
 }
 
 fn say_handed(a: HandOver) {
     match a {
         HandOver::Done { listed } => say_two(0, listed),
-        HandOver::NotSession => say_number(8),
-        HandOver::NotInFilter => say_number(9),
-        HandOver::Listed => say_number(10),
-        HandOver::EmptyCell => say_number(11),
-        HandOver::TooMany => say_number(12),
-        HandOver::BadRoom => say_number(16),
+        HandOver::NotSession => telling::say_number(8),
+        HandOver::NotInFilter => telling::say_number(9),
+        HandOver::Listed => telling::say_number(10),
+        HandOver::EmptyCell => telling::say_number(11),
+        HandOver::TooMany => telling::say_number(12),
+        HandOver::BadRoom => telling::say_number(16),
     }
 }
 
@@ -836,27 +780,27 @@ fn lend(op: u8, p: &[u8], lengths: &[u8], elements: &[u8]) -> bool {
 // The line of a request, with the memory after the call.
 fn answer_in_memory(op: u8, p: &[u8], lengths: &[u8], elements: &[u8]) {
     if !lend(op, p, lengths, elements) {
-        say(b" guard");
+        telling::say(b" guard");
     }
-    say(b"\n");
+    telling::say(b"\n");
 }
 
 // ---- requests
 // Request 6: the slices hold what the generator gives before the call.
 fn answer_open(p: &[u8]) {
     if p.len() < 38 {
-        say(b"length\n");
+        telling::say(b"length\n");
         return;
     }
     let from = 4;
     let to = 34;
     let lengths = &p[from..to];
     if !lengths_hold(lengths) {
-        say(b"length\n");
+        telling::say(b"length\n");
         return;
     }
     let mut noise = [0u8; 110912];
-    fill_random(&mut noise, long_at(p, 34));
+    telling::fill_random(&mut noise, long_at(p, 34));
     answer_in_memory(6, p, lengths, &noise);
 }
 
@@ -873,18 +817,18 @@ fn behind(op: u8) -> usize
 // Requests 7 to 9: a session and its memory.
 fn answer_session(op: u8, p: &[u8]) {
     if p.len() < 46 {
-        say(b"length\n");
+        telling::say(b"length\n");
         return;
     }
     let from = 16;
     let to = 46;
     let lengths = &p[from..to];
     if !lengths_hold(lengths) {
-        say(b"length\n");
+        telling::say(b"length\n");
         return;
     }
     if p.len() != 46 + element_bytes(lengths) + behind(op) {
-        say(b"length\n");
+        telling::say(b"length\n");
         return;
     }
     answer_in_memory(op, p, lengths, &p[to..]);
@@ -894,7 +838,7 @@ fn answer(op: u8, payload: &[u8]) {
     match op {
         6 => answer_open(payload),
         7 | 8 | 9 => answer_session(op, payload),
-        _ => say(b"op\n"),
+        _ => telling::say(b"op\n"),
     }
 }
 

@@ -62,7 +62,7 @@ open-passes l image slot m s lays e =
     })
 
 -- ---- 01's table of numbers, 8 to 12 and 16: all is kept
-same-number : (n : ℕ) (a : Handed) → handOverNumber (handAnswer n a) ≡ handing.handNumber a
+pub same-number : (n : ℕ) (a : Handed) → handOverNumber (handAnswer n a) ≡ handing.handNumber a
 same-number n hand.Taken = refl
 same-number n hand.NotInFilter = refl
 same-number n hand.Listed = refl

@@ -1,5 +1,5 @@
 -- Peeling, then counting: what the code's two calls leave is what the definition says.
-use mathlib.Core.Path.{_≡_, refl, ap, _∙_}
+use mathlib.Core.Path.{_≡_, refl, sym, ap, subst, _∙_}
 use mathlib.Core.List.{List, [], _∷_}
 use mathlib.Core.Logic.{⊎-elim, _⊎_}
 use Prim.Native.Nat.{ℕ}
@@ -12,8 +12,9 @@ use Rattle.layout.specs.declared.Sizes.{Sizes}
 use Rattle.layout.specs.Sizes.{tableCells}
 use Rattle.layout.proofs.Ranges.{table-high}
 use Rattle.list.specs.Records.{Records}
+use Rattle.peeling.specs.Seen.{Covers}
 use Rattle.peeling.specs.Table.{Tab, tab}
-use Rattle.peeling.specs.Peel.{Fits, Ended, ended, peelsOf}
+use Rattle.peeling.specs.Peel.{Fits, Ended, ended, peelsOf, listedAt}
 use Rattle.peeling.specs.declared.Stop.{Stop}
 use Rattle.peeling.specs.declared.Stop.the-variants.{Done, Full, Damaged}
 use Rattle.peeling.proofs.Stop as stop
@@ -21,7 +22,9 @@ use Rattle.peeling.proofs.Loop.{ended-fits}
 use Rattle.counting.specs.Book.{book}
 use Rattle.counting.specs.Count as counts
 use Rattle.counting.specs.declared.Stop as counting
-use Rattle.settling.specs.Settle.{settled, stopAfter, afterCounts, thenCounts, settleOf}
+use Rattle.counting.specs.declared.Stop.the-variants as count
+use Rattle.counting.proofs.Loop as counting-last
+use Rattle.settling.specs.Settle.{Settled, settled, stopAfter, afterCounts, thenCounts, settleOf}
 
 -- a 13 or 14 while peeling ends it
 others : (l : Layout) (z : Sizes) (salt : ℕ) (packets : List ℕ) (t : Tab) (rs : Records) (seen : List ℕ) (r : Stop) → OneOf (1 ∷ 2 ∷ [])
@@ -31,6 +34,25 @@ unfolding thenCounts
 others l z salt packets t rs seen (Done n) h = absurd (⊎-elim (λ e. omega arith) (λ e. omega arith) h)
 others l z salt packets t rs seen (Full n c) h = refl
 others l z salt packets t rs seen (Damaged n c) h = refl
+
+-- what fits for peeling fits for counting
+counts-fits : (l : Layout) (z : Sizes) (salt n : ℕ) (t : Tab) (packets : List ℕ) (rs : Records) (seen : List ℕ) → Fits l z salt n t rs seen
+    → length packets ≡ tableCells l z
+    → counts.Fits l z n (t .flows) (book packets (t .unknowns) (t .positions) (replicate 24 0)) rs
+counts-fits l z salt n t packets rs seen g h = record {
+  lays = g .table .lays;
+  ranged = g .table .ranged;
+  room = g .room;
+  listed = g .listed;
+  cells = record {
+    few = table-high l z (g .table .lays) (g .table .ranged);
+    flows-fit = g .table .flows-fit;
+    packets-fit = h;
+    unknowns-fit = g .table .unknowns-fit;
+    positions-fit = g .table .positions-fit;
+    ready-fit = refl;
+  };
+}
 
 module _ (l : Layout) (z : Sizes) (salt n : ℕ) (t : Tab) (packets : List ℕ) (rs : Records)
     (seen : List ℕ) {r : Stop} {t′ : Tab} {rs′ : Records} {seen′ : List ℕ}
@@ -56,18 +78,50 @@ module _ (l : Layout) (z : Sizes) (salt n : ℕ) (t : Tab) (packets : List ℕ) 
     pub count-fits : Fits l z salt n t rs seen → length packets ≡ tableCells l z
         → counts.Fits l z m (t′ .flows) (book packets (t′ .unknowns) (t′ .positions) (replicate 24 0)) rs′
     count-fits f h =
-        let g : Fits l z salt m t′ rs′ seen′ = (rw e at (ended-fits l z salt n t rs seen f p)) in
-        record {
-          lays = g .table .lays;
-          ranged = g .table .ranged;
-          room = g .room;
-          listed = g .listed;
-          cells = record {
-            few = table-high l z (g .table .lays) (g .table .ranged);
-            flows-fit = g .table .flows-fit;
-            packets-fit = h;
-            unknowns-fit = g .table .unknowns-fit;
-            positions-fit = g .table .positions-fit;
-            ready-fit = refl;
-          };
-        }
+        counts-fits l z salt m t′ packets rs′ seen′ (rw e at (ended-fits l z salt n t rs seen f p)) h
+
+-- ---- what settling leaves fits again
+pub record Lasts (l : Layout) (z : Sizes) (salt : ℕ) (s : Settled) : Type 0 where
+  pub fits : Fits l z salt (listedAt (s .answer)) (s .table) (s .list) (s .seen)
+  pub packets-fit : length (s .packets) ≡ tableCells l z
+
+listed-after : (n : ℕ) (a : counting.Stop) → listedAt (stopAfter n a) ≡ n
+listed-after n count.Done = refl
+listed-after n (count.Damaged c) = refl
+
+module _ (l : Layout) (z : Sizes) (salt : ℕ) where
+  after-last : (n : ℕ) (t : Tab) (seen : List ℕ) (rs : Records) → Fits l z salt n t rs seen → (e : counts.Ended) → counting-last.Lasts l z (rs .keys) e
+      → Lasts l z salt (afterCounts n t seen e)
+  unfolding afterCounts
+  after-last n t seen rs f e s = record {
+    fits = subst (λ m. Fits l z salt m (tab (t .xors) (t .flows) (e .unknowns) (e .positions) (t .marks)) (e .list) seen) (sym (listed-after n (e .answer))) (record {
+      table = record {
+        lays = f .table .lays;
+        ranged = f .table .ranged;
+        xors-fit = f .table .xors-fit;
+        flows-fit = f .table .flows-fit;
+        unknowns-fit = s .unknowns-fit;
+        positions-fit = s .positions-fit;
+        marks-fit = f .table .marks-fit;
+      };
+      room = s .room;
+      listed = f .listed;
+      covers = subst (λ keys. Covers l z salt n keys seen) (sym (s .keys-kept)) (f .covers);
+    });
+    packets-fit = s .packets-fit;
+  }
+
+  then-last : (r : Stop) (t : Tab) (packets : List ℕ) (rs : Records) (seen : List ℕ) → Fits l z salt (listedAt r) t rs seen
+      → length packets ≡ tableCells l z → Lasts l z salt (thenCounts l z salt packets t rs seen r)
+  unfolding thenCounts
+  then-last (Done n) t packets rs seen f h = after-last n t seen rs f (counts.countsOf l z salt n (t .flows) packets (t .unknowns) (t .positions) rs)
+      (counting-last.counts-last l z salt n (t .flows) packets (t .unknowns) (t .positions) rs (counts-fits l z salt n t packets rs seen f h))
+  then-last (Full n c) t packets rs seen f h = record { fits = f; packets-fit = h }
+  then-last (Damaged n c) t packets rs seen f h = record { fits = f; packets-fit = h }
+
+  pub settle-lasts : (n : ℕ) (t : Tab) (packets : List ℕ) (rs : Records) (seen : List ℕ) → Fits l z salt n t rs seen → length packets ≡ tableCells l z
+      → Lasts l z salt (settleOf l z salt n t packets rs seen)
+  unfolding settleOf
+  settle-lasts n t packets rs seen f h =
+      let p = peelsOf l z salt n t rs seen in
+      then-last (p .answer) (p .table) packets (p .list) (p .seen) (ended-fits l z salt n t rs seen f refl) h

@@ -19,7 +19,6 @@ pub mod Settle
 pub mod HandOver
 pub mod Calls
 pub mod Demands
-pub mod Taken
 pub mod Whole
 pub mod Alone
 -- marks and per-cell numbers

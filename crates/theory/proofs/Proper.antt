@@ -6,8 +6,8 @@ use mathlib.Core.List.{List, [], _∷_, _++_}
 use Prim.Native.Nat.{ℕ, _≤_}
 use Rattle.laws.proofs.Bools.{split, clash}
 use Rattle.theory.specs.Flow.{Key, sameKey, Distinct}
-use Rattle.theory.specs.Encode.{Table, Placement}
-use Rattle.theory.specs.Session.{Record, Session, opened, keysOf, newRecord, takeOut, withCount, setCount}
+use Rattle.theory.specs.Encode.{Placement}
+use Rattle.theory.specs.Session.{Record, Session, keysOf, newRecord, takeOut, withCount, setCount}
 use Rattle.theory.specs.Settle.{next, peelPure, countStep, settle}
 use Rattle.theory.specs.HandOver.{Switch, handOver}
 use Rattle.theory.specs.Fits.{Fits}
@@ -17,7 +17,6 @@ use Rattle.theory.proofs.Records.{take-distinct}
 use Rattle.theory.proofs.Steps.{fits-length, peel-next, peel-fits, count-next, count-positive, count-fits}
 use Rattle.theory.proofs.Settle.{settle-keeps}
 use Rattle.theory.proofs.HandOver.{hand-keeps, hand-fits}
-use Rattle.theory.proofs.Demands.{opened-fits}
 use Rattle.theory.proofs.Noted.{distinct-peel, distinct-count, settle-noted, hand-noted}
 
 -- ---- the counts stay positive
@@ -73,11 +72,6 @@ module _ (n : ℕ) (has : Placement) where
         positive = rw (p .result) (positive-set has _ _ (count-positive n has s _ _ (p .sound)) s (o .positive));
         fits = count-fits n has s t (o .fits) e;
       }
-
-  -- Theorem: opening gives a session that passes
-  pub opened-proper : (t : Table) → Proper n has (noted has (opened t))
-  unfolding keysOf Distinct CountsPositive
-  opened-proper t = proper-of n has (opened t) (record { apart = tt; positive = tt; fits = opened-fits n t })
 
   module _ (t : Noted) (p : Proper n has t) where
     -- Theorem: on a session that passes, settling by the marks is settling by looking through all cells

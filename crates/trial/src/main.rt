@@ -1,7 +1,6 @@
 // A program for tests: it reads requests on standard input, makes the call that each names, and writes a line with all that the call left.
 // tests/independent answers the same requests by code of its own, and compares. tests/PROTOCOL.md has the requests.
-ghost use mathlib.Core.Path.{_≡_};
-ghost use Prim.Native.Nat.{_≤_, min};
+ghost use Prim.Native.Nat.{_≤_};
 ghost use lib.ListN.{length};
 use encoder::Started;
 use encoder::Taken;
@@ -14,93 +13,33 @@ use libc::STDOUT_FILENO;
 use packet::Key;
 use packet::Keyed;
 
-fn say(bytes: &[u8]) {
-    io::write_all(STDOUT_FILENO, bytes);
-}
-
-fn say_number(n: u64) {
-    io::print_decimal(STDOUT_FILENO, n);
-}
-
-// A space, then a number.
-fn say_next(n: u64) {
-    say(b" ");
-    say_number(n);
-}
-
-// One hexadecimal digit.
-fn digit(x: u8) -> u8 {
-    let d = x % 16;
-    if d < 10 {
-        return 48 + d;
-    }
-    87 + d
-}
-
-// Bytes in hexadecimal, up to 2,048 of them.
-fn say_some_hex(bytes: &[u8]) {
-    let mut text = [0u8; 4096];
-    let mut i = 0;
-    while i < bytes.len() {
-        if 2048 <= i {
-            say(&text);
-            return;
-        }
-        text[2 * i] = digit(bytes[i] / 16);
-        text[2 * i + 1] = digit(bytes[i]);
-        i += 1;
-    }
-    let n = 2 * i;
-    say(&text[..n]);
-}
-
-fn least(a: usize, b: usize) -> usize
-    ensures { λ r. ⌜ r ≡ min a b ⌝ }
-{
-    if a < b {
-        return a;
-    }
-    b
-}
-
-// Bytes in hexadecimal.
-fn say_hex(bytes: &[u8]) {
-    let mut rest = bytes.len();
-    while 0 < rest {
-        let from = bytes.len() - rest;
-        let to = from + least(rest, 2048);
-        say_some_hex(&bytes[from..to]);
-        rest -= least(rest, 2048);
-    }
-}
-
 // Request 1: the hash of the payload.
 fn answer_hash(payload: &[u8]) {
     io::print_hex(STDOUT_FILENO, Fnv::new().bytes(payload).state as u64, 8);
-    say(b"\n");
+    telling::say(b"\n");
 }
 
 // A key's bytes, and the key that those bytes give back.
 fn say_key(key: Key) {
     let bytes = packet::key_bytes(key);
-    say_hex(&bytes);
+    telling::say_hex(&bytes);
     let back = packet::key_from(&bytes);
-    say_next(back.source as u64);
-    say_next(back.destination as u64);
-    say_next(back.sport as u64);
-    say_next(back.dport as u64);
-    say_next(back.protocol as u64);
+    telling::say_next(back.source as u64);
+    telling::say_next(back.destination as u64);
+    telling::say_next(back.sport as u64);
+    telling::say_next(back.dport as u64);
+    telling::say_next(back.protocol as u64);
 }
 
 // Request 2: the key of a packet.
 fn answer_key(payload: &[u8]) {
     let Keyed::Flow(key) = packet::key_of(payload) else {
-        say(b"6\n");
+        telling::say(b"6\n");
         return;
     };
-    say(b"0 ");
+    telling::say(b"0 ");
     say_key(key);
-    say(b"\n");
+    telling::say(b"\n");
 }
 
 fn wide(b: u8) -> usize
@@ -134,7 +73,7 @@ fn say_places(at: &[usize], n: usize) {
         if at.len() <= i {
             return;
         }
-        say_next(at[i] as u64);
+        telling::say_next(at[i] as u64);
         i += 1;
     }
 }
@@ -142,12 +81,12 @@ fn say_places(at: &[usize], n: usize) {
 // Request 3: a key's cells and filter bits.
 fn answer_places(payload: &[u8]) {
     if payload.len() != 21 {
-        say(b"length\n");
+        telling::say(b"length\n");
         return;
     }
     let z = sizes_at(payload);
     if !layout::in_range(z) {
-        say(b"3\n");
+        telling::say(b"3\n");
         return;
     }
     let salt = fields::long_at(payload, 4);
@@ -155,29 +94,12 @@ fn answer_places(payload: &[u8]) {
     let key = &payload[from..];
     let cells = hash::cells_of(layout::ipv4(), z, salt, key);
     let bits = hash::bits_of(z, salt, key);
-    say(b"0");
+    telling::say(b"0");
     let c = cells.at;
     let b = bits.at;
     say_places(&c, z.k);
     say_places(&b, z.kf);
-    say(b"\n");
-}
-
-// The next number of the generator that fills buffers.
-fn next_seed(x: u32) -> u32 {
-    (((x as u64) * 1664525 + 1013904223) % 4294967296) as u32
-}
-
-// Fills a buffer from the generator, and gives the generator's state afterwards.
-fn fill_random(s: &mut [u8], seed: u32) -> u32 {
-    let mut x = seed;
-    let mut i = 0;
-    while i < s.len() {
-        x = next_seed(x);
-        s[i] = (x / 16777216) as u8;
-        i += 1;
-    }
-    x
+    telling::say(b"\n");
 }
 
 fn fill_with(s: &mut [u8], b: u8) {
@@ -186,16 +108,6 @@ fn fill_with(s: &mut [u8], b: u8) {
         s[i] = b;
         i += 1;
     }
-}
-
-// Bytes in hexadecimal, or a dot where there are none.
-fn say_buffer(bytes: &[u8]) {
-    say(b" ");
-    if bytes.len() == 0 {
-        say(b".");
-        return;
-    }
-    say_hex(bytes);
 }
 
 fn start_number(a: Started) -> u64 {
@@ -264,7 +176,7 @@ fn take_packets(z: Sizes, salt: u32, p: &[u8], filter: &mut [u8], cells: &mut [u
             return;
         }
         let from = at + 2;
-        say_next(take_number(encoder::packet(z, salt, filter, cells, &p[from..next])));
+        telling::say_next(take_number(encoder::packet(z, salt, filter, cells, &p[from..next])));
         at = next;
     }
 }
@@ -293,8 +205,8 @@ fn clear_zero_bytes(cells: &mut [u8], spared: u32) {
 fn prepare(mode: u8, seed: u32, slot: u32, filter: &mut [u8], cells: &mut [u8]) -> u32 {
     match mode {
         4 => {
-            let x = fill_random(filter, seed);
-            let y = fill_random(cells, x);
+            let x = telling::fill_random(filter, seed);
+            let y = telling::fill_random(cells, x);
             clear_zero_bytes(cells, slot);
             y
         }
@@ -309,8 +221,8 @@ fn prepare(mode: u8, seed: u32, slot: u32, filter: &mut [u8], cells: &mut [u8]) 
             seed
         }
         _ => {
-            let x = fill_random(filter, seed);
-            fill_random(cells, x)
+            let x = telling::fill_random(filter, seed);
+            telling::fill_random(cells, x)
         }
     }
 }
@@ -318,10 +230,10 @@ fn prepare(mode: u8, seed: u32, slot: u32, filter: &mut [u8], cells: &mut [u8]) 
 // Starting, in mode 0 alone.
 fn start_at(mode: u8, z: Sizes, filter: &mut [u8], cells: &mut [u8]) {
     if mode == 0 {
-        say_number(start_number(encoder::start(z, filter, cells)));
+        telling::say_number(start_number(encoder::start(z, filter, cells)));
         return;
     }
-    say(b"-");
+    telling::say(b"-");
 }
 
 // The calls of request 4, with their answers.
@@ -334,7 +246,7 @@ fn call_encoder(p: &[u8], filter: &mut [u8], cells: &mut [u8], image: &mut [u8])
     let slot = fields::long_at(p, 8);
     start_at(p[18], z, filter, cells);
     take_packets(z, salt, p, filter, cells);
-    say_next(seal_number(image::seal(z, salt, slot, filter, cells, image)));
+    telling::say_next(seal_number(image::seal(z, salt, slot, filter, cells, image)));
 }
 
 // Request 4 in buffers of the lengths asked for: what they hold before, the calls, what they hold after.
@@ -349,12 +261,12 @@ fn run_encoder(p: &[u8], filter: &mut [u8], cells: &mut [u8], image: &mut [u8]) 
         filter,
         cells,
     );
-    fill_random(image, x);
+    telling::fill_random(image, x);
     call_encoder(p, filter, cells, image);
-    say_buffer(filter);
-    say_buffer(cells);
-    say_buffer(image);
-    say(b"\n");
+    telling::say_buffer(filter);
+    telling::say_buffer(cells);
+    telling::say_buffer(image);
+    telling::say(b"\n");
 }
 
 fn lend_image(p: &[u8], filter: &mut [u8], cells: &mut [u8], room: &mut [u8], n: usize) {
@@ -380,18 +292,18 @@ fn lend_filter(p: &[u8], room: &mut [u8], n: usize, cells: usize, image: usize) 
 // Request 4: an encoder's run, sealed.
 fn answer_encoder(p: &[u8]) {
     if p.len() < 23 {
-        say(b"length\n");
+        telling::say(b"length\n");
         return;
     }
     let filter = fields::short_at(p, 12) as usize;
     let cells = fields::short_at(p, 14) as usize;
     let image = fields::short_at(p, 16) as usize;
     if 8192 < filter || 32768 < cells || 41984 < image || !packets_whole(p) {
-        say(b"length\n");
+        telling::say(b"length\n");
         return;
     }
     if 4 < p[18] {
-        say(b"mode\n");
+        telling::say(b"mode\n");
         return;
     }
     let mut room = io::large_buffer();
@@ -399,27 +311,27 @@ fn answer_encoder(p: &[u8]) {
 }
 
 fn say_refusal(number: u64, block: usize) {
-    say_number(number);
-    say_next(block as u64);
+    telling::say_number(number);
+    telling::say_next(block as u64);
 }
 
 fn say_image(z: Sizes, salt: u32) {
-    say(b"0");
-    say_next(z.kf as u64);
-    say_next(z.f as u64);
-    say_next(z.k as u64);
-    say_next(z.q as u64);
-    say_next(salt as u64);
+    telling::say(b"0");
+    telling::say_next(z.kf as u64);
+    telling::say_next(z.f as u64);
+    telling::say_next(z.k as u64);
+    telling::say_next(z.q as u64);
+    telling::say_next(salt as u64);
 }
 
 // Request 5: an image is read.
 fn answer_read(p: &[u8]) {
     if p.len() < 4 {
-        say(b"length\n");
+        telling::say(b"length\n");
         return;
     }
     if 41988 < p.len() {
-        say(b"length\n");
+        telling::say(b"length\n");
         return;
     }
     let slot = fields::long_at(p, 0);
@@ -432,7 +344,7 @@ fn answer_read(p: &[u8]) {
         Reading::Mixed(n) => say_refusal(4, n),
         Reading::Stale => say_refusal(5, 0),
     }
-    say(b"\n");
+    telling::say(b"\n");
 }
 
 fn answer(op: u8, payload: &[u8]) {
@@ -442,7 +354,7 @@ fn answer(op: u8, payload: &[u8]) {
         3 => answer_places(payload),
         4 => answer_encoder(payload),
         5 => answer_read(payload),
-        _ => say(b"op\n"),
+        _ => telling::say(b"op\n"),
     }
 }
 

@@ -8,6 +8,7 @@
 //! | 4 encoder | start's number (`-` if not called), each packet's, seal's, then filter, cells and image in hexadecimal (`.` if empty) |
 //! | 5 read | `0` with kf, F, k, q and salt, or the refusal's number and block |
 //! | 6 to 10 | of sessions: see `session_answer` |
+//! | 11, 12 | see `sequence` |
 //!
 //! A request that does not fit the protocol gets `length`, `mode` or `op`; a wrong length goes before a wrong mode.
 
@@ -21,6 +22,7 @@ use crate::marked::Marked;
 use crate::memory::{Memory, LAST_MODE, STARTED};
 use crate::refusal::{number_of, Refusal};
 use crate::request::{self, parse_places, parse_read, Request, Run};
+use crate::sequence;
 use crate::session_answer;
 
 #[derive(Clone, PartialEq, Eq, Debug)]
@@ -44,6 +46,8 @@ pub fn answer(request: &Request) -> Answer {
         request::ENCODER => answer_run(payload),
         request::READ => answer_read(payload),
         request::OPEN..=request::EXCHANGE => session_answer::answer::<Marked>(request),
+        request::SEQUENCE => sequence::answer_sequence(payload),
+        request::PRINT => sequence::answer_print(payload),
         _ => Answer::new("op", "op"),
     }
 }
@@ -60,6 +64,8 @@ pub fn call_name(op: u8) -> &'static str {
         request::SETTLE => "settle",
         request::HAND_OVER => "hand-over",
         request::EXCHANGE => "exchange",
+        request::SEQUENCE => "sequence",
+        request::PRINT => "print",
         _ => "other",
     }
 }

@@ -78,5 +78,5 @@ fn hashes() -> Vec<Edge> {
 }
 
 fn others() -> Vec<Edge> {
-    [0, 11, 255].map(|op| Edge::new(format!("op {op}"), Request::new(op, [1, 2, 3]), "op")).into()
+    [0, 13, 255].map(|op| Edge::new(format!("op {op}"), Request::new(op, [1, 2, 3]), "op")).into()
 }

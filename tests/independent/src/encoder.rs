@@ -1,7 +1,7 @@
 //! Taking packets into working memory: the payload bytes of filter and cells.
 
 use crate::bytes::{put_u16, put_u32, u16_at, u32_at};
-use crate::flow;
+use crate::flow::Chosen;
 use crate::key::{Key, KeyBytes};
 use crate::layout::{CELL_BYTES, FLOW_COUNT, PACKET_COUNT};
 use crate::refusal::Refusal;
@@ -25,17 +25,17 @@ pub fn packet(sizes: Sizes, salt: u32, filter: &mut [u8], cells: &mut [u8], pack
     sizes.check()?;
     check_room(sizes, filter, cells)?;
     let key = Key::of_packet(packet)?.to_bytes();
-    let bits = flow::filter_bits(sizes, salt, &key);
-    let places = flow::cells(sizes, salt, &key);
+    let chosen = Chosen::of(sizes, salt, &key);
+    let (bits, places) = (chosen.bits(), chosen.cells());
     let flow = if bits.iter().all(|&bit| is_set(filter, bit)) { Flow::Old } else { Flow::New };
     // Nothing may change before every cell is known to have room.
-    for &place in &places {
+    for &place in places {
         check_counters(cell(cells, place), flow)?;
     }
-    for &bit in &bits {
+    for &bit in bits {
         filter[bit / 8] |= mask(bit);
     }
-    for &place in &places {
+    for &place in places {
         count_packet(cell(cells, place), flow, &key);
     }
     Ok(flow)

@@ -85,6 +85,39 @@ pub fn expected_session_kinds() -> Vec<String> {
     kinds
 }
 
+/// What the library's C entry points can answer: all of the above but hash, places and exchange; steps on a session; printing.
+pub fn expected_call_kinds() -> Vec<String> {
+    let mut kinds = expected_kinds();
+    kinds.extend(expected_session_kinds());
+    kinds.retain(|kind| !["hash ", "places ", "exchange "].iter().any(|call| kind.starts_with(call)));
+    kinds.extend(STEPS.map(|kind| format!("sequence {kind}")));
+    kinds.extend(PRINTED.map(|kind| format!("print {kind}")));
+    kinds
+}
+
+const STEPS: [&str; 17] = [
+    "settle 0",
+    "settle 8",
+    "settle 14",
+    "settle 16",
+    "hand-over 0",
+    "hand-over 8",
+    "hand-over 9",
+    "hand-over 10",
+    "hand-over 11",
+    "hand-over 12",
+    "hand-over 16",
+    "report whole",
+    "report short",
+    "report stuck",
+    "report 8",
+    "report 16",
+    "length",
+];
+
+const PRINTED: [&str; 10] =
+    ["whole", "stuck", "refused 1", "refused 2", "refused 3", "refused 4", "refused 5", "refused 14", "16", "length"];
+
 fn of_call(call: &str, groups: &[&[Refusal]]) -> Vec<String> {
     groups.concat().into_iter().map(|refusal| refused_kind(call, refusal)).collect()
 }

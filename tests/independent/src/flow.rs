@@ -34,3 +34,42 @@ pub fn cells(sizes: Sizes, salt: u32, key: &[u8]) -> Vec<usize> {
     let part = sizes.part();
     (0..sizes.k).map(|i| usize::from(i) * part + place(cell_start(salt, i).bytes(key).value(), part)).collect()
 }
+
+const MOST_BITS: usize = 8;
+const MOST_CELLS: usize = 4;
+
+/// All of a flow's bits and cells at once: one pass over the key steps every hash, so that their multiplications overlap.
+pub struct Chosen {
+    bits: [usize; MOST_BITS],
+    cells: [usize; MOST_CELLS],
+    sizes: Sizes,
+}
+
+impl Chosen {
+    pub fn of(sizes: Sizes, salt: u32, key: &[u8]) -> Self {
+        let salted = Fnv::new().bytes(&salt.to_be_bytes());
+        let (filter, table) = (salted.byte(ROLE_FILTER), salted.byte(ROLE_CELLS));
+        let mut states: [Fnv; MOST_BITS + MOST_CELLS] =
+            std::array::from_fn(|number| match number.checked_sub(MOST_BITS) {
+                None => filter.byte(number as u8),
+                Some(index) => table.byte(index as u8),
+            });
+        for &byte in key {
+            states.iter_mut().for_each(|state| *state = state.byte(byte));
+        }
+        let part = sizes.part();
+        Chosen {
+            bits: std::array::from_fn(|i| place(states[i].value(), sizes.filter_bits())),
+            cells: std::array::from_fn(|i| i * part + place(states[MOST_BITS + i].value(), part)),
+            sizes,
+        }
+    }
+
+    pub fn bits(&self) -> &[usize] {
+        &self.bits[..usize::from(self.sizes.kf)]
+    }
+
+    pub fn cells(&self) -> &[usize] {
+        &self.cells[..usize::from(self.sizes.k)]
+    }
+}

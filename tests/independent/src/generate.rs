@@ -1,5 +1,6 @@
 //! Seeded streams of requests.
 
+pub mod calls;
 mod images;
 mod packets;
 mod runs;
@@ -7,7 +8,7 @@ mod sessions;
 
 use crate::layout::KEY_BYTES;
 use crate::random::Random;
-use crate::request::{Request, EXCHANGE, HASH, KEY};
+use crate::request::{Request, HASH, KEY, PRINT};
 use crate::sizes::Sizes;
 use packets::Traffic;
 
@@ -110,7 +111,7 @@ fn places_request(random: &mut Random, turn: usize) -> Request {
 }
 
 fn other_request(random: &mut Random) -> Request {
-    let op = if random.once_in(3) { 0 } else { EXCHANGE + 1 + random.below(245) as u8 };
+    let op = if random.once_in(3) { 0 } else { PRINT + 1 + random.below(243) as u8 };
     let length = random.between(0, 30);
     Request::new(op, random.bytes(length))
 }

@@ -2,7 +2,7 @@
 
 use crate::bytes::{put_u16, put_u32, u16_at, u32_at};
 use crate::encoder::check_room;
-use crate::hash::fnv1a;
+use crate::hash::{fnv1a, fnv1a_of_four};
 use crate::layout::*;
 use crate::refusal::Refusal;
 use crate::sizes::Sizes;
@@ -41,13 +41,26 @@ pub fn seal(header: Header, filter: &[u8], cells: &[u8], image: &mut [u8]) -> Re
 pub fn read(image: &[u8], wanted_slot: u32) -> Result<Header, ReadRefusal> {
     let in_block = |block| move |refusal| ReadRefusal { refusal, block };
     check_length(image).map_err(in_block(0))?;
-    let mut blocks = image.chunks_exact(BLOCK_BYTES).enumerate();
-    let (_, first) = blocks.next().expect("a checked length has a block");
-    let header = read_first(first, image.len(), wanted_slot).map_err(in_block(0))?;
-    for (number, block) in blocks {
-        read_later(block, number, header).map_err(in_block(number))?;
+    let (first, later) = image.split_at(BLOCK_BYTES);
+    let check = fnv1a(&first[..CHECK.start]);
+    let header = read_first(first, check, image.len(), wanted_slot).map_err(in_block(0))?;
+    for (four, blocks) in later.chunks(4 * BLOCK_BYTES).enumerate() {
+        let checks = checks_of(blocks);
+        for (number, block) in blocks.chunks_exact(BLOCK_BYTES).enumerate() {
+            read_later(block, checks[number], 4 * four + number + 1, header)
+                .map_err(in_block(4 * four + number + 1))?;
+        }
     }
     Ok(header)
+}
+
+/// The checks that belong to up to four blocks; the places of missing ones stand for nothing.
+fn checks_of(blocks: &[u8]) -> [u32; 4] {
+    let checked = |number: usize| blocks[BLOCK_BYTES * number..].first_chunk::<{ CHECK.start }>().expect("a block");
+    if blocks.len() == 4 * BLOCK_BYTES {
+        return fnv1a_of_four([0, 1, 2, 3].map(checked));
+    }
+    std::array::from_fn(|number| if number < blocks.len() / BLOCK_BYTES { fnv1a(checked(number)) } else { 0 })
 }
 
 /// Makes the check fit the block's other bytes.
@@ -95,8 +108,8 @@ fn check_length(image: &[u8]) -> Result<(), Refusal> {
     }
 }
 
-fn read_first(block: &[u8], image_bytes: usize, wanted_slot: u32) -> Result<Header, Refusal> {
-    check_check(block)?;
+fn read_first(block: &[u8], check: u32, image_bytes: usize, wanted_slot: u32) -> Result<Header, Refusal> {
+    check_check(block, check)?;
     let header = header_of(block);
     header.sizes.check()?;
     check_form(block, 0, header.sizes)?;
@@ -109,8 +122,8 @@ fn read_first(block: &[u8], image_bytes: usize, wanted_slot: u32) -> Result<Head
     }
 }
 
-fn read_later(block: &[u8], number: usize, first: Header) -> Result<(), Refusal> {
-    check_check(block)?;
+fn read_later(block: &[u8], check: u32, number: usize, first: Header) -> Result<(), Refusal> {
+    check_check(block, check)?;
     let header = header_of(block);
     check_same_sizes(header.sizes, first.sizes)?;
     check_form(block, number, first.sizes)?;
@@ -123,8 +136,8 @@ fn read_later(block: &[u8], number: usize, first: Header) -> Result<(), Refusal>
     }
 }
 
-fn check_check(block: &[u8]) -> Result<(), Refusal> {
-    if u32_at(block, CHECK.start) == fnv1a(&block[..CHECK.start]) {
+fn check_check(block: &[u8], check: u32) -> Result<(), Refusal> {
+    if u32_at(block, CHECK.start) == check {
         Ok(())
     } else {
         Err(Refusal::Check)

@@ -11,6 +11,7 @@ mod encoder;
 mod engine;
 mod exchange;
 mod expected;
+mod files;
 mod flow;
 mod flowsets;
 mod fresh;
@@ -34,6 +35,7 @@ mod report;
 mod request;
 mod rescanning;
 mod selftest;
+mod sequence;
 mod session;
 mod session_answer;
 mod session_request;
@@ -51,7 +53,7 @@ mod working;
 use std::io::{self, Read, Write};
 use std::process::ExitCode;
 
-use expected::{expected_kinds, expected_session_kinds};
+use expected::{expected_call_kinds, expected_kinds, expected_session_kinds};
 use request::{Request, EXCHANGE};
 
 const USAGE: &str = "usage: independent answer < REQUESTS
@@ -61,6 +63,9 @@ const USAGE: &str = "usage: independent answer < REQUESTS
        independent compare TRIAL edges
        independent session-requests SEED COUNT
        independent compare-sessions REHEARSAL SEED COUNT [single]
+       independent compare-calls CALLS SEED COUNT
+       independent compare-files CALLS FOLDER
+       independent store-calls FOLDER SEED COUNT
        independent compare-printing REPORT SEED COUNT
        independent printing-input SEED NUMBER
        independent store-printing FOLDER
@@ -71,6 +76,8 @@ const USAGE: &str = "usage: independent answer < REQUESTS
 
 /// From so many requests on sessions on, no answer may be missing.
 const LONG_ENOUGH: usize = 400;
+/// The same for requests on the library's calls.
+const LONG_ENOUGH_FOR_CALLS: u64 = 1_000;
 
 fn main() -> ExitCode {
     let arguments: Vec<String> = std::env::args().skip(1).collect();
@@ -104,6 +111,17 @@ fn run(words: &[&str]) -> io::Result<bool> {
         }
         ["compare-sessions", program, seed, count] => compare_sessions(program, seed, count, true),
         ["compare-sessions", program, seed, count, "single"] => compare_sessions(program, seed, count, false),
+        ["compare-calls", program, seed, count] => {
+            let requests = generate::calls::call_requests(number(seed)?, number(count)? as usize);
+            let expected = if number(count)? < LONG_ENOUGH_FOR_CALLS { Vec::new() } else { expected_call_kinds() };
+            print_comparison(program, &format!("calls, seed {seed} count {count}"), &requests, &expected)
+        }
+        ["compare-files", program, folder] => {
+            print_comparison(program, &format!("files of {folder}"), &files::read(folder)?, &[])
+        }
+        ["store-calls", folder, seed, count] => {
+            files::store(folder, &generate::calls::call_requests(number(seed)?, number(count)? as usize)).map(|()| true)
+        }
         ["compare-printing", program, seed, count] => {
             let inputs = generate::printing_inputs(number(seed)?, number(count)? as usize);
             compare_printing::compare(program, number(seed)?, &inputs, "target/tests/printing-differs")

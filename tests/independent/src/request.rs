@@ -8,6 +8,7 @@
 //! | 4 encoder | kf, F, k, q (1 each), salt 4, slot 4, lengths of filter, cells and image (2 each), mode 1, seed 4, then packets, each as length 2 and bytes |
 //! | 5 read | wanted slot 4, image |
 //! | 6 to 10 | on sessions: see `session_request` |
+//! | 11, 12 | for the library's C entry points: see `sequence` |
 
 use std::io::{self, Write};
 
@@ -27,6 +28,8 @@ pub const REPORT: u8 = 7;
 pub const SETTLE: u8 = 8;
 pub const HAND_OVER: u8 = 9;
 pub const EXCHANGE: u8 = 10;
+pub const SEQUENCE: u8 = 11;
+pub const PRINT: u8 = 12;
 
 /// The longest buffers that a trial must hold: a little more than 01's longest, so that too long can be tried.
 pub const MAX_FILTER: usize = 8_192;

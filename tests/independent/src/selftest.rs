@@ -498,7 +498,9 @@ fn ops(tally: &mut Tally) {
     tally.equal("op 4, mode 0", line(4, &[0; 23]), "3 3 . . .".into());
     tally.equal("op 4, mode 1", line(4, &[&[0; 18][..], &[1, 0, 0, 0, 0]].concat()), "- 3 . . .".into());
     tally.equal("op 5", line(5, &[0; 4]), "1 0".into());
-    tally.equal("op 11", line(11, &[]), "op".into());
+    tally.equal("op 11", line(11, &[]), "length".into());
+    tally.equal("op 12", line(12, &[]), "length".into());
+    tally.equal("op 13", line(13, &[]), "op".into());
 }
 
 fn streams(tally: &mut Tally) {

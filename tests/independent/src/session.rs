@@ -21,12 +21,11 @@ impl<E: Engine> Session<E> {
     pub fn open(image: &[u8], wanted_slot: u32) -> Result<Self, ReadRefusal> {
         let header = image::read(image, wanted_slot)?;
         let (filter_blocks, cell_blocks) = image.split_at(BLOCK_BYTES * usize::from(header.sizes.f));
-        let cells = payloads(cell_blocks).flat_map(|payload| payload.chunks_exact(CELL_BYTES)).map(Cell::from_bytes);
-        Ok(Session {
-            header,
-            filter: payloads(filter_blocks).flatten().copied().collect(),
-            engine: E::new(&Hashed::new(header.sizes, header.salt), cells.collect()),
-        })
+        let mut filter = Vec::with_capacity(header.sizes.filter_bytes());
+        payloads(filter_blocks).for_each(|payload| filter.extend_from_slice(payload));
+        let mut cells = Vec::with_capacity(header.sizes.cells());
+        payloads(cell_blocks).for_each(|payload| cells.extend(payload.chunks_exact(CELL_BYTES).map(Cell::from_bytes)));
+        Ok(Session { header, filter, engine: E::new(&Hashed::new(header.sizes, header.salt), cells) })
     }
 
     pub fn hand_over(&mut self, key: &KeyBytes) -> Result<(), Refusal> {

@@ -75,7 +75,7 @@ pub fn parse_exchange(mut payload: &[u8]) -> Option<(LentSession, LentSession)> 
     payload.is_empty().then_some(sessions)
 }
 
-fn session_bytes(session: &LentSession) -> Vec<u8> {
+pub fn session_bytes(session: &LentSession) -> Vec<u8> {
     let Header { sizes, salt, slot } = session.header;
     let mut bytes = sizes.to_bytes().to_vec();
     for number in [salt, slot, session.listed] {
@@ -86,7 +86,7 @@ fn session_bytes(session: &LentSession) -> Vec<u8> {
     bytes
 }
 
-fn take_session(bytes: &mut &[u8]) -> Option<LentSession> {
+pub fn take_session(bytes: &mut &[u8]) -> Option<LentSession> {
     let sizes = Sizes::from_bytes(take(bytes, 4)?);
     let header = Header { sizes, salt: take_u32(bytes)?, slot: take_u32(bytes)? };
     let listed = take_u32(bytes)?;

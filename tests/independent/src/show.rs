@@ -4,7 +4,8 @@ use crate::bytes::hex;
 use crate::layout::KEY_BYTES;
 use crate::lent::{Slice, SLICES};
 use crate::lent_session::LentSession;
-use crate::request::{Request, EXCHANGE, HAND_OVER, OPEN, REPORT, SETTLE};
+use crate::request::{Request, EXCHANGE, HAND_OVER, OPEN, REPORT, SEQUENCE, SETTLE};
+use crate::sequence::parse_sequence;
 use crate::session_request::{parse_exchange, parse_hand_over, parse_session};
 
 /// Nothing for other requests, and for those of a wrong length.
@@ -13,6 +14,7 @@ pub fn show_request(request: &Request) -> String {
     let shown = match request.op {
         HAND_OVER => parse_hand_over(payload).map(|(session, key)| show(&session) + &format!("key: {}\n", hex(&key))),
         EXCHANGE => parse_exchange(payload).map(|(a, b)| format!("A: {}B: {}", show(&a), show(&b))),
+        SEQUENCE => parse_sequence(payload).map(|(session, steps)| show(&session) + &format!("steps: {steps:02x?}\n")),
         REPORT | SETTLE => parse_session(payload).map(|session| show(&session)),
         _ => None,
     };
@@ -41,7 +43,7 @@ fn show_slice(session: &LentSession, slice: Slice) -> String {
 pub fn slice_of_word(op: u8, line: &str, word: usize) -> Option<Slice> {
     let memories = match op {
         EXCHANGE => 2,
-        OPEN..=HAND_OVER => 1,
+        OPEN..=HAND_OVER | SEQUENCE => 1,
         _ => 0,
     };
     let from_end = line.split(' ').count().checked_sub(word + 1)?;

@@ -1,7 +1,8 @@
 //! Finding a short request that still shows a difference.
 
 use crate::layout::BLOCK_BYTES;
-use crate::request::{Request, Run, ENCODER, EXCHANGE, OPEN, READ, READ_HEAD};
+use crate::request::{Request, Run, ENCODER, EXCHANGE, OPEN, PRINT, READ, READ_HEAD, SEQUENCE};
+use crate::sequence::{parse_sequence, sequence_request, PRINT_HEAD};
 
 /// For requests on sessions: each try runs the program anew.
 const MOST_TRIES: usize = 600;
@@ -11,6 +12,12 @@ pub fn shrink(request: &Request, mut differs: impl FnMut(&Request) -> bool) -> R
     if request.op == ENCODER {
         if let Some(run) = Run::parse(&request.payload) {
             return shrink_run(run, &mut differs);
+        }
+    }
+    if request.op == SEQUENCE {
+        if let Some((session, steps)) = parse_sequence(&request.payload) {
+            let kept = drop_in_rounds(steps, |steps| differs(&sequence_request(&session, steps)));
+            return zero_in_rounds(&sequence_request(&session, &kept), &mut differs);
         }
     }
     if (OPEN..=EXCHANGE).contains(&request.op) {
@@ -66,10 +73,14 @@ fn zero_in_rounds(request: &Request, differs: &mut impl FnMut(&Request) -> bool)
 /// What must stay, and what may go. A torn block only ever makes a wrong length, so whole blocks go.
 fn pieces_of(request: &Request) -> (&[u8], Vec<&[u8]>) {
     let payload = request.payload.as_slice();
-    if request.op != READ || payload.len() < READ_HEAD {
+    let head_bytes = match request.op {
+        READ => READ_HEAD,
+        PRINT => PRINT_HEAD,
+        _ => usize::MAX,
+    };
+    let Some((head, image)) = payload.split_at_checked(head_bytes) else {
         return (&[], payload.chunks(1).collect());
-    }
-    let (head, image) = payload.split_at(READ_HEAD);
+    };
     let blocks = image.chunks_exact(BLOCK_BYTES);
     let rest = blocks.remainder();
     (head, blocks.chain(rest.chunks(1)).collect())

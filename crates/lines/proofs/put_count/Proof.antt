@@ -15,7 +15,10 @@ same-length c = search needs
 
 returns : tie.Need-returns
 returns c =
-    put-same (sym (count-known (c .before .before .before .before .before .before .args .count) (c .before .before .before .before .if1 .taken))) (c .before .before .put-decimal .ensures)
+    let c2 = c .before .before in
+    let c4 = c2 .before .before in
+    let c6 = c4 .before .before in
+    put-same (sym (count-known (c6 .args .count) (c4 .if1 .taken))) (c2 .put-decimal .ensures)
 
 put-byte-requires : tie.Need-put-byte-requires
 put-byte-requires c κs = let a = c .before .before .before .args in omega (arith, ap length (count-unknown (a .count) (c .before .if1 .left)))
@@ -25,7 +28,10 @@ same-length-2 c = search needs
 
 returns-2 : tie.Need-returns-2
 returns-2 c =
-    put-same (sym (count-unknown (c .before .before .before .before .before .before .args .count) (c .before .before .before .before .if1 .left))) (c .before .before .put-byte .ensures)
+    let c2 = c .before .before in
+    let c4 = c2 .before .before in
+    let c6 = c4 .before .before in
+    put-same (sym (count-unknown (c6 .args .count) (c4 .if1 .left))) (c2 .put-byte .ensures)
 
 pub put-count-spec : {M : Type 1} → statement M
 put-count-spec =

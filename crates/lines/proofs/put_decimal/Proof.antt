@@ -17,7 +17,8 @@ width-of-requires c κs = search needs
 
 loop-holds : tie.Need-loop-holds Inv-loop μ-loop
 loop-holds c =
-    written-none (c .before .before .args .out .now) (c .before .before .args .at) (c .before .before .args .n) (c .width-of .ensures .0) (c .width-of .ensures .1)
+    let c2 = c .before .before in
+    written-none (c2 .args .out .now) (c2 .args .at) (c2 .args .n) (c .width-of .ensures .0) (c .width-of .ensures .1)
 
 sub-left : tie.Need-sub-left Inv-loop μ-loop
 sub-left c = search needs

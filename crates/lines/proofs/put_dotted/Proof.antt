@@ -13,11 +13,14 @@ put-followed-requires-2 : tie.Need-put-followed-requires-2
 put-followed-requires-2 c κs = let a = c .before .before .before .before .before .before .args in omega (arith, length-dotted (a .address))
 
 put-followed-requires-3 : tie.Need-put-followed-requires-3
-put-followed-requires-3 c κs = let a = c .before .before .before .before .before .before .before .before .before .before .args in omega (arith, length-dotted (a .address))
+put-followed-requires-3 c κs =
+    let c10 = c .before .before .before .before .before .before .before .before .before .before in
+    let a = c10 .args in omega (arith, length-dotted (a .address))
 
 put-decimal-requires : tie.Need-put-decimal-requires
 put-decimal-requires c κs =
-    let a = c .before .before .before .before .before .before .before .before .before .before .before .before .before .before .args in omega (arith, length-dotted (a .address))
+    let c14 = c .before .before .before .before .before .before .before .before .before .before .before .before .before .before in
+    let a = c14 .args in omega (arith, length-dotted (a .address))
 
 same-length : tie.Need-same-length
 same-length c = search needs
@@ -25,7 +28,11 @@ same-length c = search needs
 returns : tie.Need-returns
 unfolding dotted
 returns c =
-    put-then (c .before .before .before .before .before .before .before .before .before .before .before .before .before .before .put-followed .ensures) (put-then (c .before .before .before .before .before .before .before .before .before .before .put-followed2 .ensures) (put-then (c .before .before .before .before .before .before .put-followed3 .ensures) (c .before .before .put-decimal .ensures)))
+    let c2 = c .before .before in
+    let c6 = c2 .before .before .before .before in
+    let c10 = c6 .before .before .before .before in
+    let c14 = c10 .before .before .before .before in
+    put-then (c14 .put-followed .ensures) (put-then (c10 .put-followed2 .ensures) (put-then (c6 .put-followed3 .ensures) (c2 .put-decimal .ensures)))
 
 pub put-dotted-spec : {M : Type 1} → statement M
 put-dotted-spec =

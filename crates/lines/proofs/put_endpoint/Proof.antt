@@ -14,7 +14,8 @@ put-byte-requires c κs = let a = c .before .before .before .before .before .bef
 
 put-followed-requires : tie.Need-put-followed-requires
 put-followed-requires c κs =
-    let a = c .before .before .before .before .before .before .before .before .before .before .args in omega (arith, length-endpoint (a .address) (a .port))
+    let c10 = c .before .before .before .before .before .before .before .before .before .before in
+    let a = c10 .args in omega (arith, length-endpoint (a .address) (a .port))
 
 same-length : tie.Need-same-length
 same-length c = search needs
@@ -22,7 +23,10 @@ same-length c = search needs
 returns : tie.Need-returns
 unfolding endpoint
 returns c =
-    put-then (c .before .before .before .before .before .before .before .before .before .before .put-dotted .ensures) (put-then (c .before .before .before .before .before .before .put-byte .ensures) (c .before .before .put-followed .ensures))
+    let c2 = c .before .before in
+    let c6 = c2 .before .before .before .before in
+    let c10 = c6 .before .before .before .before in
+    put-then (c10 .put-dotted .ensures) (put-then (c6 .put-byte .ensures) (c2 .put-followed .ensures))
 
 pub put-endpoint-spec : {M : Type 1} → statement M
 put-endpoint-spec =

@@ -13,7 +13,9 @@ put-followed-requires-2 : tie.Need-put-followed-requires-2
 put-followed-requires-2 c κs = let a = c .before .before .before .before .before .before .args in omega (arith, length-report (a .report))
 
 put-followed-requires-3 : tie.Need-put-followed-requires-3
-put-followed-requires-3 c κs = let a = c .before .before .before .before .before .before .before .before .before .before .args in omega (arith, length-report (a .report))
+put-followed-requires-3 c κs =
+    let c10 = c .before .before .before .before .before .before .before .before .before .before in
+    let a = c10 .args in omega (arith, length-report (a .report))
 
 word-of-requires : tie.Need-word-of-requires
 word-of-requires c κs = search needs
@@ -23,11 +25,15 @@ slice-aggregate-put-bytes c = search needs
 
 put-bytes-requires : tie.Need-put-bytes-requires
 put-bytes-requires c κs =
-    let a = c .before .before .before .before .before .before .before .before .before .before .before .before .before .before .before .before .args in omega (arith, length-report (a .report))
+    let c14 = c .before .before .before .before .before .before .before .before .before .before .before .before .before .before in
+    let c16 = c14 .before .before in
+    let a = c16 .args in omega (arith, length-report (a .report))
 
 put-byte-requires : tie.Need-put-byte-requires
 put-byte-requires c κs =
-    let a = c .before .before .before .before .before .before .before .before .before .before .before .before .before .before .before .before .before .before .before .before .args in omega (arith, length-report (a .report))
+    let a = c .before .before .before .before .before .before .before .before .before .before
+    .before .before .before .before .before .before .before .before .before .before .args in
+    omega (arith, length-report (a .report))
 
 same-length : tie.Need-same-length
 same-length c = search needs
@@ -35,7 +41,15 @@ same-length c = search needs
 returns : tie.Need-returns
 unfolding reportText
 returns c =
-    put-then (c .before .before .before .before .before .before .before .before .before .before .before .before .before .before .before .before .before .before .before .before .put-followed .ensures) (put-then (c .before .before .before .before .before .before .before .before .before .before .before .before .before .before .before .before .put-followed2 .ensures) (put-then (c .before .before .before .before .before .before .before .before .before .before .before .before .put-followed3 .ensures) (put-then (rw (c .before .before .before .before .before .before .before .before .before .word-of .ensures) at (c .before .before .before .before .before .before .put-bytes .ensures)) (c .before .before .put-byte .ensures))))
+    let c2 = c .before .before in
+    let c6 = c2 .before .before .before .before in
+    let c9 = c6 .before .before .before in
+    let c12 = c9 .before .before .before in
+    let c16 = c12 .before .before .before .before in
+    let c20 = c16 .before .before .before .before in
+    put-then (c20 .put-followed .ensures)
+    (put-then (c16 .put-followed2 .ensures)
+    (put-then (c12 .put-followed3 .ensures) (put-then (rw (c9 .word-of .ensures) at (c6 .put-bytes .ensures)) (c2 .put-byte .ensures))))
 
 pub put-report-spec : {M : Type 1} → statement M
 put-report-spec =

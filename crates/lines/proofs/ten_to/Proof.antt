@@ -32,7 +32,9 @@ loop-again c = (rw (add-one, pow-suc 10 (c .before .loop .i), c .before .loop .i
 
 returns : tie.Need-returns Inv-loop μ-loop
 returns c =
-    let all : c .before .loop .i ≡ c .before .before .args .zeros = omega arith in (rw all at (c .before .loop .inv .0), omega (arith, ten-pos (c .before .loop .i)))
+    let c1 = c .before in
+    let c2 = c1 .before in
+    let all : c1 .loop .i ≡ c2 .args .zeros = omega arith in (rw all at (c1 .loop .inv .0), omega (arith, ten-pos (c1 .loop .i)))
 
 pub ten-to-spec : {M : Type 1} → statement M
 ten-to-spec =

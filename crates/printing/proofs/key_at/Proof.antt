@@ -35,8 +35,11 @@ key-from-requires c κs = search needs
 
 returns : tie.Need-returns
 returns c =
-    let a = c .before .before .before .before .before .before .before .args in
-    c .key-from .ensures ∙ ap keyFrom (c .before .before .before .copy-in .ensures ∙ key-part ipv4Layout (a .keys .now) (a .i) {k = a .i * 13 + 13 - a .i * 13} (omega arith))
+    let c3 = c .before .before .before in
+    let c7 = c3 .before .before .before .before in
+    let a = c7 .args in
+    c .key-from .ensures ∙ ap keyFrom
+    (c3 .copy-in .ensures ∙ key-part ipv4Layout (a .keys .now) (a .i) {k = a .i * 13 + 13 - a .i * 13} (omega arith))
 
 pub key-at-spec : {M : Type 1} → statement M
 key-at-spec =

@@ -14,7 +14,10 @@ same-length c = search needs
 
 returns : tie.Need-returns
 returns c =
-    whole (input-short (c .before .before .before .before .before .before .before .args .input .now) (c .before .before .before .before .if1 .taken)) (c .before .before .put-refused .ensures)
+    let c2 = c .before .before in
+    let c4 = c2 .before .before in
+    let c7 = c4 .before .before .before in
+    whole (input-short (c7 .args .input .now) (c4 .if1 .taken)) (c2 .put-refused .ensures)
 
 sub-print-image : tie.Need-sub-print-image
 sub-print-image c = search needs
@@ -36,7 +39,11 @@ same-length-2 c = search needs
 
 returns-2 : tie.Need-returns-2
 returns-2 c =
-    whole (input-image (c .before .before .before .before .before .before .before .before .before .args .input .now) (c .before .before .before .before .before .before .if1 .left) (c .before .before .before .before .long-at .ensures)) (c .before .before .print-image .ensures)
+    let c2 = c .before .before in
+    let c4 = c2 .before .before in
+    let c6 = c4 .before .before in
+    let c9 = c6 .before .before .before in
+    whole (input-image (c9 .args .input .now) (c6 .if1 .left) (c4 .long-at .ensures)) (c2 .print-image .ensures)
 
 pub print-spec : {M : Type 1} → statement M
 print-spec =

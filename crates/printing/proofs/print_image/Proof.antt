@@ -44,22 +44,25 @@ slice-aggregate-print-parts-10 : tie.Need-slice-aggregate-print-parts-10
 slice-aggregate-print-parts-10 c = search needs
 
 print-parts-requires : tie.Need-print-parts-requires
-print-parts-requires c κs = (
-  (c .before .before .before .before .before .before .before .before .before .before .before .before .before .before .before) .pre,
-  c .before .before .before .before .before .before .before .before .before .before .before .sizes-read .ensures ∙ ap sizesRead (c .before .before .before .before .before .before .before .before .before .before .before .before .read .ensures),
-  record {
-    filter = length-replicate {A = ℕ} 7680 0;
-    xors = length-replicate {A = ℕ} 19968 0;
-    flows = length-replicate {A = ℕ} 1536 0;
-    unknowns = length-replicate {A = ℕ} 1536 0;
-    positions = length-replicate {A = ℕ} 1536 0;
-    marks = length-replicate {A = ℕ} 24 0;
-    packets = length-replicate {A = ℕ} 1536 0;
-    keys = length-replicate {A = ℕ} 39936 0;
-    counts = length-replicate {A = ℕ} 3072 0;
-    flags = length-replicate {A = ℕ} 3072 0;
-  },
-)
+print-parts-requires c κs =
+    let c11 = c .before .before .before .before .before .before .before .before .before .before .before in
+    let c12 = c11 .before in
+    let c15 = c12 .before .before .before in (
+      c15 .pre,
+      c11 .sizes-read .ensures ∙ ap sizesRead (c12 .read .ensures),
+      record {
+        filter = length-replicate {A = ℕ} 7680 0;
+        xors = length-replicate {A = ℕ} 19968 0;
+        flows = length-replicate {A = ℕ} 1536 0;
+        unknowns = length-replicate {A = ℕ} 1536 0;
+        positions = length-replicate {A = ℕ} 1536 0;
+        marks = length-replicate {A = ℕ} 24 0;
+        packets = length-replicate {A = ℕ} 1536 0;
+        keys = length-replicate {A = ℕ} 39936 0;
+        counts = length-replicate {A = ℕ} 3072 0;
+        flags = length-replicate {A = ℕ} 3072 0;
+      },
+    )
 
 same-length : tie.Need-same-length
 same-length c = search needs

@@ -27,7 +27,11 @@ open-number-requires c κs = search needs
 
 put-refused-requires : tie.Need-put-refused-requires
 put-refused-requires c κs =
-    let h = refused-le (c .open-number .result) (omega arith) in omega (arith, (c .before .before .before .before .before .before .before .before .before .before .before .before .before .before .before .before .before .before .before .before .before .before .before .before .before .before .before .before .before .before .before .before .before .before .before .before .before .before .before .before .before .before .before .before .before .before) .pre .0)
+    let c14 = c .before .before .before .before .before .before .before .before .before .before .before .before .before .before in
+    let c28 = c14 .before .before .before .before .before .before .before .before .before .before .before .before .before .before in
+    let c42 = c28 .before .before .before .before .before .before .before .before .before .before .before .before .before .before in
+    let c46 = c42 .before .before .before .before in
+    let h = refused-le (c .open-number .result) (omega arith) in omega (arith, c46 .pre .0)
 
 same-length : tie.Need-same-length
 same-length c = search needs
@@ -64,62 +68,131 @@ same-length-11 c = search needs
 
 returns : tie.Need-returns
 returns c =
-    let s = (c .before .before .before .before .before .before .before .before .before .before .before .before .before .before .before .before .before .before .before .before .before .before .before .before .before .before .before .before .before .before .before .before .before .before .before .before .before .before .before .before .before .before .before .before .before .before .before .before .before) in
+    let c2 = c .before .before in
+    let c3 = c2 .before in
+    let c5 = c3 .before .before in
+    let c19 = c5 .before .before .before .before .before .before .before .before .before .before .before .before .before .before in
+    let c26 = c19 .before .before .before .before .before .before .before in
+    let c40 = c26 .before .before .before .before .before .before .before .before .before .before .before .before .before .before in
+    let c49 = c40 .before .before .before .before .before .before .before .before .before in
+    let s = c49 in
     let a = s .args in
-    put-same (image-refused (a .image .now) (a .slot) (M s) (c .before .before .before .before .before .before .before .before .before .before .before .before .before .before .before .before .before .before .before .before .before .before .before .before .before .before .«open» .ensures) (s .pre .1) (c .before .before .before .before .before .match .keys2) (c .before .before .before .open-number .ensures)) (c .before .before .put-refused .ensures)
+    put-same (image-refused (a .image .now) (a .slot) (M s) (c26 .«open» .ensures) (s .pre .1) (c5 .match .keys2) (c3 .open-number .ensures))
+    (c2 .put-refused .ensures)
 
 print-session-requires : tie.Need-print-session-requires
 print-session-requires c κs =
-    (c .before .before .before .before .before .before .before .before .before .before .before .before .before .before .before .before .before .before .before .before .before .before .before .before .before .before .before .before .before .before .before .before .before .before .before .before .before .before .before .before .before .before .before .before .before .before .before .before .before .before .before .before .before .before .before .before .before) .pre .0
+    let c14 = c .before .before .before .before .before .before .before .before .before .before .before .before .before .before in
+    let c28 = c14 .before .before .before .before .before .before .before .before .before .before .before .before .before .before in
+    let c42 = c28 .before .before .before .before .before .before .before .before .before .before .before .before .before .before in
+    let c56 = c42 .before .before .before .before .before .before .before .before .before .before .before .before .before .before in
+    let c57 = c56 .before in
+    c57 .pre .0
 
 same-length-12 : tie.Need-same-length-12
 same-length-12 c =
-    c .before .before .before .before .before .before .before .before .before .before .before .before .before .before .before .before .before .before .before .before .before .before .before .before .before .before .before .before .before .before .before .before .before .before .before .before .before .before .before .before .before .before .before .before .before .before .before .before .before .before .before .before .before .before .before .«open» .kept .1 .1 .0
+    let c14 = c .before .before .before .before .before .before .before .before .before .before .before .before .before .before in
+    let c28 = c14 .before .before .before .before .before .before .before .before .before .before .before .before .before .before in
+    let c42 = c28 .before .before .before .before .before .before .before .before .before .before .before .before .before .before in
+    let c55 = c42 .before .before .before .before .before .before .before .before .before .before .before .before .before in
+    c55 .«open» .kept .1 .1 .0
 
 same-length-13 : tie.Need-same-length-13
 same-length-13 c =
-    c .before .before .before .before .before .before .before .before .before .before .before .before .before .before .before .before .before .before .before .before .print-session .kept .1 .1 .0 ∙ c .before .before .before .before .before .before .before .before .before .before .before .before .before .before .before .before .before .before .before .before .before .before .before .before .before .before .before .before .before .before .before .before .before .before .before .before .before .before .before .before .before .before .before .before .before .before .before .before .before .before .before .before .before .before .before .«open» .kept .1 .1 .1 .0
+    let c14 = c .before .before .before .before .before .before .before .before .before .before .before .before .before .before in
+    let c20 = c14 .before .before .before .before .before .before in
+    let c34 = c20 .before .before .before .before .before .before .before .before .before .before .before .before .before .before in
+    let c48 = c34 .before .before .before .before .before .before .before .before .before .before .before .before .before .before in
+    let c55 = c48 .before .before .before .before .before .before .before in
+    c20 .print-session .kept .1 .1 .0 ∙ c55 .«open» .kept .1 .1 .1 .0
 
 same-length-14 : tie.Need-same-length-14
 same-length-14 c =
-    c .before .before .before .before .before .before .before .before .before .before .before .before .before .before .before .before .before .before .before .before .print-session .kept .1 .1 .1 .0 ∙ c .before .before .before .before .before .before .before .before .before .before .before .before .before .before .before .before .before .before .before .before .before .before .before .before .before .before .before .before .before .before .before .before .before .before .before .before .before .before .before .before .before .before .before .before .before .before .before .before .before .before .before .before .before .before .before .«open» .kept .1 .1 .1 .1 .0
+    let c14 = c .before .before .before .before .before .before .before .before .before .before .before .before .before .before in
+    let c20 = c14 .before .before .before .before .before .before in
+    let c34 = c20 .before .before .before .before .before .before .before .before .before .before .before .before .before .before in
+    let c48 = c34 .before .before .before .before .before .before .before .before .before .before .before .before .before .before in
+    let c55 = c48 .before .before .before .before .before .before .before in
+    c20 .print-session .kept .1 .1 .1 .0 ∙ c55 .«open» .kept .1 .1 .1 .1 .0
 
 same-length-15 : tie.Need-same-length-15
 same-length-15 c =
-    c .before .before .before .before .before .before .before .before .before .before .before .before .before .before .before .before .before .before .before .before .print-session .kept .1 .1 .1 .1 .0 ∙ c .before .before .before .before .before .before .before .before .before .before .before .before .before .before .before .before .before .before .before .before .before .before .before .before .before .before .before .before .before .before .before .before .before .before .before .before .before .before .before .before .before .before .before .before .before .before .before .before .before .before .before .before .before .before .before .«open» .kept .1 .1 .1 .1 .1 .0
+    let c14 = c .before .before .before .before .before .before .before .before .before .before .before .before .before .before in
+    let c20 = c14 .before .before .before .before .before .before in
+    let c34 = c20 .before .before .before .before .before .before .before .before .before .before .before .before .before .before in
+    let c48 = c34 .before .before .before .before .before .before .before .before .before .before .before .before .before .before in
+    let c55 = c48 .before .before .before .before .before .before .before in
+    c20 .print-session .kept .1 .1 .1 .1 .0 ∙ c55 .«open» .kept .1 .1 .1 .1 .1 .0
 
 same-length-16 : tie.Need-same-length-16
 same-length-16 c =
-    c .before .before .before .before .before .before .before .before .before .before .before .before .before .before .before .before .before .before .before .before .print-session .kept .1 .1 .1 .1 .1 .0 ∙ c .before .before .before .before .before .before .before .before .before .before .before .before .before .before .before .before .before .before .before .before .before .before .before .before .before .before .before .before .before .before .before .before .before .before .before .before .before .before .before .before .before .before .before .before .before .before .before .before .before .before .before .before .before .before .before .«open» .kept .1 .1 .1 .1 .1 .1 .0
+    let c14 = c .before .before .before .before .before .before .before .before .before .before .before .before .before .before in
+    let c20 = c14 .before .before .before .before .before .before in
+    let c34 = c20 .before .before .before .before .before .before .before .before .before .before .before .before .before .before in
+    let c48 = c34 .before .before .before .before .before .before .before .before .before .before .before .before .before .before in
+    let c55 = c48 .before .before .before .before .before .before .before in
+    c20 .print-session .kept .1 .1 .1 .1 .1 .0 ∙ c55 .«open» .kept .1 .1 .1 .1 .1 .1 .0
 
 same-length-17 : tie.Need-same-length-17
 same-length-17 c =
-    c .before .before .before .before .before .before .before .before .before .before .before .before .before .before .before .before .before .before .before .before .print-session .kept .1 .1 .1 .1 .1 .1 .0 ∙ c .before .before .before .before .before .before .before .before .before .before .before .before .before .before .before .before .before .before .before .before .before .before .before .before .before .before .before .before .before .before .before .before .before .before .before .before .before .before .before .before .before .before .before .before .before .before .before .before .before .before .before .before .before .before .before .«open» .kept .1 .1 .1 .1 .1 .1 .1 .0
+    let c14 = c .before .before .before .before .before .before .before .before .before .before .before .before .before .before in
+    let c20 = c14 .before .before .before .before .before .before in
+    let c34 = c20 .before .before .before .before .before .before .before .before .before .before .before .before .before .before in
+    let c48 = c34 .before .before .before .before .before .before .before .before .before .before .before .before .before .before in
+    let c55 = c48 .before .before .before .before .before .before .before in
+    c20 .print-session .kept .1 .1 .1 .1 .1 .1 .0 ∙ c55 .«open» .kept .1 .1 .1 .1 .1 .1 .1 .0
 
 same-length-18 : tie.Need-same-length-18
 same-length-18 c =
-    c .before .before .before .before .before .before .before .before .before .before .before .before .before .before .before .before .before .before .before .before .print-session .kept .1 .1 .1 .1 .1 .1 .1 .0 ∙ c .before .before .before .before .before .before .before .before .before .before .before .before .before .before .before .before .before .before .before .before .before .before .before .before .before .before .before .before .before .before .before .before .before .before .before .before .before .before .before .before .before .before .before .before .before .before .before .before .before .before .before .before .before .before .before .«open» .kept .1 .1 .1 .1 .1 .1 .1 .1 .0
+    let c14 = c .before .before .before .before .before .before .before .before .before .before .before .before .before .before in
+    let c20 = c14 .before .before .before .before .before .before in
+    let c34 = c20 .before .before .before .before .before .before .before .before .before .before .before .before .before .before in
+    let c48 = c34 .before .before .before .before .before .before .before .before .before .before .before .before .before .before in
+    let c55 = c48 .before .before .before .before .before .before .before in
+    c20 .print-session .kept .1 .1 .1 .1 .1 .1 .1 .0 ∙ c55 .«open» .kept .1 .1 .1 .1 .1 .1 .1 .1 .0
 
 same-length-19 : tie.Need-same-length-19
 same-length-19 c =
-    c .before .before .before .before .before .before .before .before .before .before .before .before .before .before .before .before .before .before .before .before .print-session .kept .1 .1 .1 .1 .1 .1 .1 .1 .0 ∙ c .before .before .before .before .before .before .before .before .before .before .before .before .before .before .before .before .before .before .before .before .before .before .before .before .before .before .before .before .before .before .before .before .before .before .before .before .before .before .before .before .before .before .before .before .before .before .before .before .before .before .before .before .before .before .before .«open» .kept .1 .1 .1 .1 .1 .1 .1 .1 .1 .0
+    let c14 = c .before .before .before .before .before .before .before .before .before .before .before .before .before .before in
+    let c20 = c14 .before .before .before .before .before .before in
+    let c34 = c20 .before .before .before .before .before .before .before .before .before .before .before .before .before .before in
+    let c48 = c34 .before .before .before .before .before .before .before .before .before .before .before .before .before .before in
+    let c55 = c48 .before .before .before .before .before .before .before in
+    c20 .print-session .kept .1 .1 .1 .1 .1 .1 .1 .1 .0 ∙ c55 .«open» .kept .1 .1 .1 .1 .1 .1 .1 .1 .1 .0
 
 same-length-20 : tie.Need-same-length-20
 same-length-20 c =
-    c .before .before .before .before .before .before .before .before .before .before .before .before .before .before .before .before .before .before .before .before .print-session .kept .1 .1 .1 .1 .1 .1 .1 .1 .1 .0 ∙ c .before .before .before .before .before .before .before .before .before .before .before .before .before .before .before .before .before .before .before .before .before .before .before .before .before .before .before .before .before .before .before .before .before .before .before .before .before .before .before .before .before .before .before .before .before .before .before .before .before .before .before .before .before .before .before .«open» .kept .1 .1 .1 .1 .1 .1 .1 .1 .1 .1 .0
+    let c14 = c .before .before .before .before .before .before .before .before .before .before .before .before .before .before in
+    let c20 = c14 .before .before .before .before .before .before in
+    let c34 = c20 .before .before .before .before .before .before .before .before .before .before .before .before .before .before in
+    let c48 = c34 .before .before .before .before .before .before .before .before .before .before .before .before .before .before in
+    let c55 = c48 .before .before .before .before .before .before .before in
+    c20 .print-session .kept .1 .1 .1 .1 .1 .1 .1 .1 .1 .0 ∙ c55 .«open» .kept .1 .1 .1 .1 .1 .1 .1 .1 .1 .1 .0
 
 same-length-21 : tie.Need-same-length-21
 same-length-21 c =
-    c .before .before .before .before .before .before .before .before .before .before .before .before .before .before .before .before .before .before .before .before .print-session .kept .1 .1 .1 .1 .1 .1 .1 .1 .1 .1 .0 ∙ c .before .before .before .before .before .before .before .before .before .before .before .before .before .before .before .before .before .before .before .before .before .before .before .before .before .before .before .before .before .before .before .before .before .before .before .before .before .before .before .before .before .before .before .before .before .before .before .before .before .before .before .before .before .before .before .«open» .kept .1 .1 .1 .1 .1 .1 .1 .1 .1 .1 .1 .0
+    let c14 = c .before .before .before .before .before .before .before .before .before .before .before .before .before .before in
+    let c20 = c14 .before .before .before .before .before .before in
+    let c34 = c20 .before .before .before .before .before .before .before .before .before .before .before .before .before .before in
+    let c48 = c34 .before .before .before .before .before .before .before .before .before .before .before .before .before .before in
+    let c55 = c48 .before .before .before .before .before .before .before in
+    c20 .print-session .kept .1 .1 .1 .1 .1 .1 .1 .1 .1 .1 .0 ∙ c55 .«open» .kept .1 .1 .1 .1 .1 .1 .1 .1 .1 .1 .1 .0
 
 same-length-22 : tie.Need-same-length-22
 same-length-22 c = search needs
 
 returns-2 : tie.Need-returns-2
 returns-2 c =
-    let s = (c .before .before .before .before .before .before .before .before .before .before .before .before .before .before .before .before .before .before .before .before .before .before .before .before .before .before .before .before .before .before .before .before .before .before .before .before .before .before .before .before .before .before .before .before .before .before .before .before .before .before .before .before .before .before .before .before .before .before .before .before .before .before .before .before .before .before .before .before .before .before .before .before .before .before .before .before .before .before) in
+    let c14 = c .before .before .before .before .before .before .before .before .before .before .before .before .before .before in
+    let c20 = c14 .before .before .before .before .before .before in
+    let c33 = c20 .before .before .before .before .before .before .before .before .before .before .before .before .before in
+    let c47 = c33 .before .before .before .before .before .before .before .before .before .before .before .before .before .before in
+    let c55 = c47 .before .before .before .before .before .before .before .before in
+    let c69 = c55 .before .before .before .before .before .before .before .before .before .before .before .before .before .before in
+    let c78 = c69 .before .before .before .before .before .before .before .before .before in
+    let s = c78 in
     let a = s .args in
-    put-same (image-opened (a .image .now) (a .slot) (M s) (c .before .before .before .before .before .before .before .before .before .before .before .before .before .before .before .before .before .before .before .before .before .before .before .before .before .before .before .before .before .before .before .before .before .before .before .before .before .before .before .before .before .before .before .before .before .before .before .before .before .before .before .before .before .before .before .«open» .ensures) (c .before .before .before .before .before .before .before .before .before .before .before .before .before .before .before .before .before .before .before .before .before .before .before .before .before .before .before .before .before .before .before .before .before .o .given .1)) (c .before .before .before .before .before .before .before .before .before .before .before .before .before .before .before .before .before .before .before .before .print-session .ensures)
+    put-same (image-opened (a .image .now) (a .slot) (M s) (c55 .«open» .ensures) (c33 .o .given .1)) (c20 .print-session .ensures)
 
 pub print-in-spec : {M : Type 1} → statement M
 print-in-spec =

@@ -69,8 +69,11 @@ slice-relend-prefix-print-in c =
 
 slice-aggregate-print-in : tie.Need-slice-aggregate-print-in
 slice-aggregate-print-in c =
-    let s = (c .before .before .before .before .before .before .before .before .before .before .before .before .before .before .before .before) in
-    sym (length-take-le (c .before .before .before .filter-bytes .result) (s .args .filter .now) (omega (arith, bytes-high (s .args .image .now) (s .args .slot) (sized s) (c .before .before .before .filter-bytes .ensures), s .pre .2 .filter)))
+    let c3 = c .before .before .before in
+    let c16 = c3 .before .before .before .before .before .before .before .before .before .before .before .before .before in
+    let s = c16 in
+    sym (length-take-le (c3 .filter-bytes .result) (s .args .filter .now)
+    (omega (arith, bytes-high (s .args .image .now) (s .args .slot) (sized s) (c3 .filter-bytes .ensures), s .pre .2 .filter)))
 
 slice-relend-prefix-print-in-2 : tie.Need-slice-relend-prefix-print-in-2
 slice-relend-prefix-print-in-2 c =
@@ -79,93 +82,160 @@ slice-relend-prefix-print-in-2 c =
 
 slice-aggregate-print-in-2 : tie.Need-slice-aggregate-print-in-2
 slice-aggregate-print-in-2 c =
-    let s = (c .before .before .before .before .before .before .before .before .before .before .before .before .before .before .before .before .before) in
-    sym (length-take-le (c .before .before .table-cells .result * 13) (s .args .xors .now) (omega (arith, few s (c .before .before .before .ipv4 .ensures) (c .before .before .table-cells .ensures), s .pre .2 .xors)))
+    let c2 = c .before .before in
+    let c3 = c2 .before in
+    let c17 = c3 .before .before .before .before .before .before .before .before .before .before .before .before .before .before in
+    let s = c17 in
+    sym (length-take-le (c2 .table-cells .result * 13) (s .args .xors .now)
+    (omega (arith, few s (c3 .ipv4 .ensures) (c2 .table-cells .ensures), s .pre .2 .xors)))
 
 slice-relend-prefix-print-in-3 : tie.Need-slice-relend-prefix-print-in-3
 slice-relend-prefix-print-in-3 c =
-    let s = (c .before .before .before .before .before .before .before .before .before .before .before .before .before .before .before .before .before) in
-    omega (arith, few s (c .before .before .before .ipv4 .ensures) (c .before .before .table-cells .ensures), s .pre .2 .flows)
+    let c2 = c .before .before in
+    let c3 = c2 .before in
+    let c17 = c3 .before .before .before .before .before .before .before .before .before .before .before .before .before .before in
+    let s = c17 in
+    omega (arith, few s (c3 .ipv4 .ensures) (c2 .table-cells .ensures), s .pre .2 .flows)
 
 slice-aggregate-print-in-3 : tie.Need-slice-aggregate-print-in-3
 slice-aggregate-print-in-3 c =
-    let s = (c .before .before .before .before .before .before .before .before .before .before .before .before .before .before .before .before .before .before) in
-    sym (length-take-le (c .before .before .before .table-cells .result) (s .args .flows .now) (omega (arith, few s (c .before .before .before .before .ipv4 .ensures) (c .before .before .before .table-cells .ensures), s .pre .2 .flows)))
+    let c3 = c .before .before .before in
+    let c4 = c3 .before in
+    let c18 = c4 .before .before .before .before .before .before .before .before .before .before .before .before .before .before in
+    let s = c18 in
+    sym (length-take-le (c3 .table-cells .result) (s .args .flows .now)
+    (omega (arith, few s (c4 .ipv4 .ensures) (c3 .table-cells .ensures), s .pre .2 .flows)))
 
 slice-relend-prefix-print-in-4 : tie.Need-slice-relend-prefix-print-in-4
 slice-relend-prefix-print-in-4 c =
-    let s = (c .before .before .before .before .before .before .before .before .before .before .before .before .before .before .before .before .before .before) in
-    omega (arith, few s (c .before .before .before .before .ipv4 .ensures) (c .before .before .before .table-cells .ensures), s .pre .2 .packets)
+    let c3 = c .before .before .before in
+    let c4 = c3 .before in
+    let c18 = c4 .before .before .before .before .before .before .before .before .before .before .before .before .before .before in
+    let s = c18 in
+    omega (arith, few s (c4 .ipv4 .ensures) (c3 .table-cells .ensures), s .pre .2 .packets)
 
 slice-aggregate-print-in-4 : tie.Need-slice-aggregate-print-in-4
 slice-aggregate-print-in-4 c =
-    let s = (c .before .before .before .before .before .before .before .before .before .before .before .before .before .before .before .before .before .before .before) in
-    sym (length-take-le (c .before .before .before .before .table-cells .result) (s .args .packets .now) (omega (arith, few s (c .before .before .before .before .before .ipv4 .ensures) (c .before .before .before .before .table-cells .ensures), s .pre .2 .packets)))
+    let c4 = c .before .before .before .before in
+    let c5 = c4 .before in
+    let c19 = c5 .before .before .before .before .before .before .before .before .before .before .before .before .before .before in
+    let s = c19 in
+    sym (length-take-le (c4 .table-cells .result) (s .args .packets .now)
+    (omega (arith, few s (c5 .ipv4 .ensures) (c4 .table-cells .ensures), s .pre .2 .packets)))
 
 slice-relend-prefix-print-in-5 : tie.Need-slice-relend-prefix-print-in-5
 slice-relend-prefix-print-in-5 c =
-    let s = (c .before .before .before .before .before .before .before .before .before .before .before .before .before .before .before .before .before .before .before) in
-    omega (arith, few s (c .before .before .before .before .before .ipv4 .ensures) (c .before .before .before .before .table-cells .ensures), s .pre .2 .unknowns)
+    let c4 = c .before .before .before .before in
+    let c5 = c4 .before in
+    let c19 = c5 .before .before .before .before .before .before .before .before .before .before .before .before .before .before in
+    let s = c19 in
+    omega (arith, few s (c5 .ipv4 .ensures) (c4 .table-cells .ensures), s .pre .2 .unknowns)
 
 slice-aggregate-print-in-5 : tie.Need-slice-aggregate-print-in-5
 slice-aggregate-print-in-5 c =
-    let s = (c .before .before .before .before .before .before .before .before .before .before .before .before .before .before .before .before .before .before .before .before) in
-    sym (length-take-le (c .before .before .before .before .before .table-cells .result) (s .args .unknowns .now) (omega (arith, few s (c .before .before .before .before .before .before .ipv4 .ensures) (c .before .before .before .before .before .table-cells .ensures), s .pre .2 .unknowns)))
+    let c5 = c .before .before .before .before .before in
+    let c6 = c5 .before in
+    let c20 = c6 .before .before .before .before .before .before .before .before .before .before .before .before .before .before in
+    let s = c20 in
+    sym (length-take-le (c5 .table-cells .result) (s .args .unknowns .now)
+    (omega (arith, few s (c6 .ipv4 .ensures) (c5 .table-cells .ensures), s .pre .2 .unknowns)))
 
 slice-relend-prefix-print-in-6 : tie.Need-slice-relend-prefix-print-in-6
 slice-relend-prefix-print-in-6 c =
-    let s = (c .before .before .before .before .before .before .before .before .before .before .before .before .before .before .before .before .before .before .before .before) in
-    omega (arith, few s (c .before .before .before .before .before .before .ipv4 .ensures) (c .before .before .before .before .before .table-cells .ensures), s .pre .2 .positions)
+    let c5 = c .before .before .before .before .before in
+    let c6 = c5 .before in
+    let c20 = c6 .before .before .before .before .before .before .before .before .before .before .before .before .before .before in
+    let s = c20 in
+    omega (arith, few s (c6 .ipv4 .ensures) (c5 .table-cells .ensures), s .pre .2 .positions)
 
 slice-aggregate-print-in-6 : tie.Need-slice-aggregate-print-in-6
 slice-aggregate-print-in-6 c =
-    let s = (c .before .before .before .before .before .before .before .before .before .before .before .before .before .before .before .before .before .before .before .before .before) in
-    sym (length-take-le (c .before .before .before .before .before .before .table-cells .result) (s .args .positions .now) (omega (arith, few s (c .before .before .before .before .before .before .before .ipv4 .ensures) (c .before .before .before .before .before .before .table-cells .ensures), s .pre .2 .positions)))
+    let c6 = c .before .before .before .before .before .before in
+    let c7 = c6 .before in
+    let c21 = c7 .before .before .before .before .before .before .before .before .before .before .before .before .before .before in
+    let s = c21 in
+    sym (length-take-le (c6 .table-cells .result) (s .args .positions .now)
+    (omega (arith, few s (c7 .ipv4 .ensures) (c6 .table-cells .ensures), s .pre .2 .positions)))
 
 slice-relend-prefix-print-in-7 : tie.Need-slice-relend-prefix-print-in-7
 slice-relend-prefix-print-in-7 c =
-    let s = (c .before .before .before .before .before .before .before .before .before .before .before .before .before .before .before .before .before .before .before .before .before) in
-    omega (arith, few s (c .before .before .before .before .before .before .before .ipv4 .ensures) (c .before .before .before .before .before .before .table-cells .ensures), s .pre .2 .marks)
+    let c6 = c .before .before .before .before .before .before in
+    let c7 = c6 .before in
+    let c21 = c7 .before .before .before .before .before .before .before .before .before .before .before .before .before .before in
+    let s = c21 in
+    omega (arith, few s (c7 .ipv4 .ensures) (c6 .table-cells .ensures), s .pre .2 .marks)
 
 slice-aggregate-print-in-7 : tie.Need-slice-aggregate-print-in-7
 slice-aggregate-print-in-7 c =
-    let s = (c .before .before .before .before .before .before .before .before .before .before .before .before .before .before .before .before .before .before .before .before .before .before) in
-    sym (length-take-le ((c .before .before .before .before .before .before .before .table-cells .result + 63) / 64) (s .args .marks .now) (omega (arith, few s (c .before .before .before .before .before .before .before .before .ipv4 .ensures) (c .before .before .before .before .before .before .before .table-cells .ensures), s .pre .2 .marks)))
+    let c7 = c .before .before .before .before .before .before .before in
+    let c8 = c7 .before in
+    let c22 = c8 .before .before .before .before .before .before .before .before .before .before .before .before .before .before in
+    let s = c22 in
+    sym (length-take-le ((c7 .table-cells .result + 63) / 64) (s .args .marks .now)
+    (omega (arith, few s (c8 .ipv4 .ensures) (c7 .table-cells .ensures), s .pre .2 .marks)))
 
 slice-relend-prefix-print-in-8 : tie.Need-slice-relend-prefix-print-in-8
 slice-relend-prefix-print-in-8 c =
-    let s = (c .before .before .before .before .before .before .before .before .before .before .before .before .before .before .before .before .before .before .before .before .before .before) in
-    omega (arith, few s (c .before .before .before .before .before .before .before .before .ipv4 .ensures) (c .before .before .before .before .before .before .before .table-cells .ensures), s .pre .2 .keys)
+    let c7 = c .before .before .before .before .before .before .before in
+    let c8 = c7 .before in
+    let c22 = c8 .before .before .before .before .before .before .before .before .before .before .before .before .before .before in
+    let s = c22 in
+    omega (arith, few s (c8 .ipv4 .ensures) (c7 .table-cells .ensures), s .pre .2 .keys)
 
 slice-aggregate-print-in-8 : tie.Need-slice-aggregate-print-in-8
 slice-aggregate-print-in-8 c =
-    let s = (c .before .before .before .before .before .before .before .before .before .before .before .before .before .before .before .before .before .before .before .before .before .before .before) in
-    sym (length-take-le (2 * c .before .before .before .before .before .before .before .before .table-cells .result * 13) (s .args .keys .now) (omega (arith, few s (c .before .before .before .before .before .before .before .before .before .ipv4 .ensures) (c .before .before .before .before .before .before .before .before .table-cells .ensures), s .pre .2 .keys)))
+    let c8 = c .before .before .before .before .before .before .before .before in
+    let c9 = c8 .before in
+    let c23 = c9 .before .before .before .before .before .before .before .before .before .before .before .before .before .before in
+    let s = c23 in
+    sym (length-take-le (2 * c8 .table-cells .result * 13) (s .args .keys .now)
+    (omega (arith, few s (c9 .ipv4 .ensures) (c8 .table-cells .ensures), s .pre .2 .keys)))
 
 slice-relend-prefix-print-in-9 : tie.Need-slice-relend-prefix-print-in-9
 slice-relend-prefix-print-in-9 c =
-    let s = (c .before .before .before .before .before .before .before .before .before .before .before .before .before .before .before .before .before .before .before .before .before .before .before) in
-    omega (arith, few s (c .before .before .before .before .before .before .before .before .before .ipv4 .ensures) (c .before .before .before .before .before .before .before .before .table-cells .ensures), s .pre .2 .counts)
+    let c8 = c .before .before .before .before .before .before .before .before in
+    let c9 = c8 .before in
+    let c23 = c9 .before .before .before .before .before .before .before .before .before .before .before .before .before .before in
+    let s = c23 in
+    omega (arith, few s (c9 .ipv4 .ensures) (c8 .table-cells .ensures), s .pre .2 .counts)
 
 slice-aggregate-print-in-9 : tie.Need-slice-aggregate-print-in-9
 slice-aggregate-print-in-9 c =
-    let s = (c .before .before .before .before .before .before .before .before .before .before .before .before .before .before .before .before .before .before .before .before .before .before .before .before) in
-    sym (length-take-le (2 * c .before .before .before .before .before .before .before .before .before .table-cells .result) (s .args .counts .now) (omega (arith, few s (c .before .before .before .before .before .before .before .before .before .before .ipv4 .ensures) (c .before .before .before .before .before .before .before .before .before .table-cells .ensures), s .pre .2 .counts)))
+    let c9 = c .before .before .before .before .before .before .before .before .before in
+    let c10 = c9 .before in
+    let c24 = c10 .before .before .before .before .before .before .before .before .before .before .before .before .before .before in
+    let s = c24 in
+    sym (length-take-le (2 * c9 .table-cells .result) (s .args .counts .now)
+    (omega (arith, few s (c10 .ipv4 .ensures) (c9 .table-cells .ensures), s .pre .2 .counts)))
 
 slice-relend-prefix-print-in-10 : tie.Need-slice-relend-prefix-print-in-10
 slice-relend-prefix-print-in-10 c =
-    let s = (c .before .before .before .before .before .before .before .before .before .before .before .before .before .before .before .before .before .before .before .before .before .before .before .before) in
-    omega (arith, few s (c .before .before .before .before .before .before .before .before .before .before .ipv4 .ensures) (c .before .before .before .before .before .before .before .before .before .table-cells .ensures), s .pre .2 .flags)
+    let c9 = c .before .before .before .before .before .before .before .before .before in
+    let c10 = c9 .before in
+    let c24 = c10 .before .before .before .before .before .before .before .before .before .before .before .before .before .before in
+    let s = c24 in
+    omega (arith, few s (c10 .ipv4 .ensures) (c9 .table-cells .ensures), s .pre .2 .flags)
 
 slice-aggregate-print-in-10 : tie.Need-slice-aggregate-print-in-10
 slice-aggregate-print-in-10 c =
-    let s = (c .before .before .before .before .before .before .before .before .before .before .before .before .before .before .before .before .before .before .before .before .before .before .before .before .before) in
-    sym (length-take-le (2 * c .before .before .before .before .before .before .before .before .before .before .table-cells .result) (s .args .flags .now) (omega (arith, few s (c .before .before .before .before .before .before .before .before .before .before .before .ipv4 .ensures) (c .before .before .before .before .before .before .before .before .before .before .table-cells .ensures), s .pre .2 .flags)))
+    let c10 = c .before .before .before .before .before .before .before .before .before .before in
+    let c11 = c10 .before in
+    let c25 = c11 .before .before .before .before .before .before .before .before .before .before .before .before .before .before in
+    let s = c25 in
+    sym (length-take-le (2 * c10 .table-cells .result) (s .args .flags .now)
+    (omega (arith, few s (c11 .ipv4 .ensures) (c10 .table-cells .ensures), s .pre .2 .flags)))
 
 print-in-requires : tie.Need-print-in-requires
 print-in-requires c κs =
-    let s = (c .before .before .before .before .before .before .before .before .before .before .before .before .before .before .before .before .before .before .before .before .before .before .before .before .before .before) in
-    (s .pre .0, parts-fit (s .args .image .now) (s .args .slot) (sized s) (c .before .before .before .before .before .before .before .before .before .before .before .before .ipv4 .ensures) (c .before .before .before .before .before .before .before .before .before .before .before .table-cells .ensures) (M s) (c .before .before .before .before .before .before .before .before .before .before .before .before .before .filter-bytes .ensures) (s .pre .2))
+    let c11 = c .before .before .before .before .before .before .before .before .before .before .before in
+    let c12 = c11 .before in
+    let c13 = c12 .before in
+    let c26 = c13 .before .before .before .before .before .before .before .before .before .before .before .before .before in
+    let s = c26 in (
+      s .pre .0,
+      parts-fit (s .args .image .now) (s .args .slot) (sized s) (c12 .ipv4 .ensures) (c11 .table-cells .ensures) (M s)
+          (c13 .filter-bytes .ensures) (s .pre .2),
+    )
 
 same-length : tie.Need-same-length
 same-length c = search needs
@@ -202,7 +272,9 @@ same-length-11 c = search needs
 
 returns : tie.Need-returns
 returns c =
-    c .before .before .before .before .before .before .before .before .before .before .before .before .before .before .before .before .before .before .before .before .before .before .print-in .ensures
+    let c14 = c .before .before .before .before .before .before .before .before .before .before .before .before .before .before in
+    let c22 = c14 .before .before .before .before .before .before .before .before in
+    c22 .print-in .ensures
 
 pub print-parts-spec : {M : Type 1} → statement M
 print-parts-spec =

@@ -59,14 +59,33 @@ same-length-10 c = search needs
 
 returns : tie.Need-returns
 returns c =
-    let s = (c .before .before .before .before .before .before .before .before .before .before .before .before .before .before .before .before .before .before .before .before .before .before .before .before .before .before .before .before .before .before .before .before .before .before .before .before .before .before .before .before .before .before .before .before .before) in
-    put-same (session-refused (s .args .s) (M s) (c .before .before .before .before .before .before .before .before .before .before .before .before .before .before .before .before .before .before .before .before .before .before .before .before .settle .ensures) (c .before .before .before .before .before .match .keys2) (c .before .before .before .settle-number .ensures)) (c .before .before .put-refused .ensures)
+    let c2 = c .before .before in
+    let c3 = c2 .before in
+    let c5 = c3 .before .before in
+    let c19 = c5 .before .before .before .before .before .before .before .before .before .before .before .before .before .before in
+    let c24 = c19 .before .before .before .before .before in
+    let c38 = c24 .before .before .before .before .before .before .before .before .before .before .before .before .before .before in
+    let c45 = c38 .before .before .before .before .before .before .before in
+    let s = c45 in
+    put-same (session-refused (s .args .s) (M s) (c24 .settle .ensures) (c5 .match .keys2) (c3 .settle-number .ensures)) (c2 .put-refused .ensures)
 
 put-listed-requires : tie.Need-put-listed-requires
 put-listed-requires c κs =
-    let s = (c .before .before .before .before .before .before .before .before .before .before .before .before .before .before .before .before .before .before .before .before .before .before .before .before .before .before .before .before .before .before .before .before .before .before .before .before .before .before .before .before .before .before .before .before .before .before .before) in
-    let q = session-listed (s .args .s) (M s) (c .before .before .before .before .before .before .before .before .before .before .before .before .before .before .before .before .before .before .before .before .before .before .before .before .before .before .settle .ensures) (c .before .before .before .before .before .before .e .given .1) in
-    (omega arith, q .few, omega (arith, q .cells, c .before .before .before .before .before .before .before .before .before .before .before .before .before .before .before .before .before .before .before .before .before .before .before .before .before .before .settle .kept), omega (arith, q .keys, c .before .before .before .before .before .before .before .before .before .before .before .before .before .before .before .before .before .before .before .before .before .before .before .before .before .before .settle .kept), omega (arith, q .counts, c .before .before .before .before .before .before .before .before .before .before .before .before .before .before .before .before .before .before .before .before .before .before .before .before .before .before .settle .kept), omega (arith, q .flags, c .before .before .before .before .before .before .before .before .before .before .before .before .before .before .before .before .before .before .before .before .before .before .before .before .before .before .settle .kept))
+    let c6 = c .before .before .before .before .before .before in
+    let c20 = c6 .before .before .before .before .before .before .before .before .before .before .before .before .before .before in
+    let c26 = c20 .before .before .before .before .before .before in
+    let c40 = c26 .before .before .before .before .before .before .before .before .before .before .before .before .before .before in
+    let c47 = c40 .before .before .before .before .before .before .before in
+    let s = c47 in
+    let q = session-listed (s .args .s) (M s) (c26 .settle .ensures) (c6 .e .given .1) in (
+      omega arith,
+      q .few,
+      omega (arith, q .cells, c26 .settle .kept),
+      omega (arith, q .keys, c26 .settle .kept),
+      omega
+          (arith, q .counts, c26 .settle .kept),
+      omega (arith, q .flags, c26 .settle .kept),
+    )
 
 same-length-11 : tie.Need-same-length-11
 same-length-11 c = search needs
@@ -100,8 +119,14 @@ same-length-20 c = search needs
 
 returns-2 : tie.Need-returns-2
 returns-2 c =
-    let s = (c .before .before .before .before .before .before .before .before .before .before .before .before .before .before .before .before .before .before .before .before .before .before .before .before .before .before .before .before .before .before .before .before .before .before .before .before .before .before .before .before .before .before .before .before .before .before .before .before .before .before) in
-    put-same (session-done (s .args .s) (M s) (c .before .before .before .before .before .before .before .before .before .before .before .before .before .before .before .before .before .before .before .before .before .before .before .before .before .before .before .before .before .settle .ensures) (c .before .before .before .before .before .before .before .before .before .e .given .1)) (c .before .before .put-listed .ensures)
+    let c2 = c .before .before in
+    let c9 = c2 .before .before .before .before .before .before .before in
+    let c23 = c9 .before .before .before .before .before .before .before .before .before .before .before .before .before .before in
+    let c29 = c23 .before .before .before .before .before .before in
+    let c43 = c29 .before .before .before .before .before .before .before .before .before .before .before .before .before .before in
+    let c50 = c43 .before .before .before .before .before .before .before in
+    let s = c50 in
+    put-same (session-done (s .args .s) (M s) (c29 .settle .ensures) (c9 .e .given .1)) (c2 .put-listed .ensures)
 
 pub print-session-spec : {M : Type 1} → statement M
 print-session-spec =

@@ -17,10 +17,13 @@ abbrev μ-loop : tie.MeasureT-loop
 
 loop-holds : tie.Need-loop-holds Inv-loop μ-loop
 loop-holds c =
-    let a = c .before .before .before .before .args in (omega arith, written-none (records (a .keys .now) (a .counts .now) (a .flags .now)) (a .out .now) (a .at) (omega arith))
+    let c4 = c .before .before .before .before in
+    let a = c4 .args in (omega arith, written-none (records (a .keys .now) (a .counts .now) (a .flags .now)) (a .out .now) (a .at) (omega arith))
 
 put-record-requires : tie.Need-put-record-requires Inv-loop μ-loop
-put-record-requires c κs = let w = c .before .before .loop .inv .1 in let e = put-length (w .text) in (omega arith, omega arith, omega arith, omega arith)
+put-record-requires c κs =
+    let c2 = c .before .before in
+    let w = c2 .loop .inv .1 in let e = put-length (w .text) in (omega arith, omega arith, omega arith, omega arith)
 
 add-i : tie.Need-add-i Inv-loop μ-loop
 add-i c = search needs
@@ -30,14 +33,18 @@ loop-less c = search needs
 
 loop-again : tie.Need-loop-again Inv-loop μ-loop
 loop-again c =
-    (omega arith, written-more (c .before .before .before .before .before .loop .inv .1) (c .before .before .put-record .ensures .0) (c .before .before .put-record .ensures .1))
+    let c2 = c .before .before in
+    let c5 = c2 .before .before .before in
+    (omega arith, written-more (c5 .loop .inv .1) (c2 .put-record .ensures .0) (c2 .put-record .ensures .1))
 
 same-length : tie.Need-same-length Inv-loop μ-loop
 same-length c = put-length (c .before .loop .inv .1 .text)
 
 returns : tie.Need-returns Inv-loop μ-loop
 returns c =
-    let all : c .before .loop .i ≡ c .before .before .before .before .before .before .args .n = omega arith in (rw all at (c .before .loop .inv .1 .text))
+    let c1 = c .before in
+    let c6 = c1 .before .before .before .before .before in
+    let all : c1 .loop .i ≡ c6 .args .n = omega arith in (rw all at (c1 .loop .inv .1 .text))
 
 pub put-records-spec : {M : Type 1} → statement M
 put-records-spec =

@@ -29,7 +29,9 @@ array-share-prefix-out c = subst (λ (k : ℕ). c .before .print .result ≤ k) 
 
 slice-aggregate-write-all : tie.Need-slice-aggregate-write-all
 slice-aggregate-write-all c =
-    sym (length-take-le (c .before .before .print .result) (c .before .before .print .last .1 .0) (subst (λ (k : ℕ). c .before .before .print .result ≤ k) (sym (c .before .before .print .kept .1 .0)) (c .before .before .print .ensures .2)))
+    let c2 = c .before .before in
+    sym (length-take-le (c2 .print .result) (c2 .print .last .1 .0)
+    (subst (λ (k : ℕ). c2 .print .result ≤ k) (sym (c2 .print .kept .1 .0)) (c2 .print .ensures .2)))
 
 write-all-requires : tie.Need-write-all-requires
 write-all-requires c κs = search needs

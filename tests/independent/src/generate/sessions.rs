@@ -6,6 +6,7 @@ mod faults;
 mod hands;
 pub mod opens;
 mod samples;
+pub mod sequences;
 mod tables;
 
 use crate::layout::KEY_BYTES;

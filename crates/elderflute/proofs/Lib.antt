@@ -1,0 +1,3 @@
+-- Laws of the answers, the proofs of the crate's functions, and that each contract determines its outcome.
+pub mod Answers
+pub mod Outcomes

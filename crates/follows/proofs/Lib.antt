@@ -1,0 +1,4 @@
+-- What a call over records leaves, taken apart, is what the call over numbers leaves; so the demands hold of calls over records.
+pub mod Kept
+pub mod Opened
+pub mod Demands

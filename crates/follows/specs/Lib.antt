@@ -1,0 +1,2 @@
+-- What the theorems over records cite.
+pub mod Calls

@@ -1,0 +1,3 @@
+-- Laws of filling from the generator.
+pub mod Filling
+pub mod Outcomes
