@@ -1,8 +1,9 @@
 // A program for tests: it reads requests on standard input, makes the call on a session that each names, and writes a line with all that the
 // call left. tests/independent answers the same requests by code of its own, and compares. tests/PROTOCOL.md has the requests.
 ghost use mathlib.Core.Path.{_≡_};
-ghost use Prim.Native.Nat.{_≤_};
+ghost use Prim.Native.Nat.{_*_, _≤_};
 ghost use lib.ListN.{length};
+use exchange::Exchanged;
 use layout::Sizes;
 use libc::STDIN_FILENO;
 use libc::STDOUT_FILENO;
@@ -123,7 +124,7 @@ fn session_at(p: &[u8]) -> Session {
 fn key_at_end(p: &[u8]) -> Key {
     let mut bytes = [0u8; 13];
     if 13 <= p.len() {
-        fill_bytes(p, p.len() - 13, &mut bytes);
+        fill_bytes(p, p.len() - 13, &mut bytes, 0, 13);
     }
     packet::key_from(&bytes)
 }
@@ -159,6 +160,49 @@ fn lengths_at(lengths: &[u8]) -> Lengths
     }
 }
 
+// The lengths of no memory.
+fn no_lengths() -> Lengths {
+    Lengths {
+        filter: 0,
+        xors: 0,
+        flows: 0,
+        packets: 0,
+        unknowns: 0,
+        positions: 0,
+        marks: 0,
+        keys: 0,
+        counts: 0,
+        flags: 0,
+    }
+}
+
+// Where two slices end that are joined.
+fn end_at(lengths: &[u8], others: &[u8], at: usize, most: usize) -> usize
+    requires { ⌜ most ≤ 40960 ⌝ }
+    ensures { λ r. ⌜ r ≤ 2 * most ⌝ }
+{
+    length_at(lengths, at, most) + length_at(others, at, most)
+}
+
+// Where two memories end that are joined, one area of each kind.
+fn ends_at(lengths: &[u8], others: &[u8]) -> Lengths
+    ensures { λ r. ⌜ (r .filter ≤ 16384) × (r .xors ≤ 40960) × (r .flows ≤ 4096) × (r .packets ≤ 4096) × (r .unknowns ≤ 4096)
+        × (r .positions ≤ 4096) × (r .marks ≤ 80) × (r .keys ≤ 81920) × (r .counts ≤ 8192) × (r .flags ≤ 8192) ⌝ }
+{
+    Lengths {
+        filter: end_at(lengths, others, 0, 8192),
+        xors: end_at(lengths, others, 3, 20480),
+        flows: end_at(lengths, others, 6, 2048),
+        packets: end_at(lengths, others, 9, 2048),
+        unknowns: end_at(lengths, others, 12, 2048),
+        positions: end_at(lengths, others, 15, 2048),
+        marks: end_at(lengths, others, 18, 40),
+        keys: end_at(lengths, others, 21, 40960),
+        counts: end_at(lengths, others, 24, 4096),
+        flags: end_at(lengths, others, 27, 4096),
+    }
+}
+
 // Whether no length is above the most.
 fn lengths_hold(lengths: &[u8]) -> bool {
     let most = MOST;
@@ -182,11 +226,11 @@ fn element_bytes(lengths: &[u8]) -> usize
     bytes + 2 * shorts + 4 * (m.packets + m.counts) + 8 * m.marks
 }
 
-// ---- filling slices; each answers the place after what it took
-fn fill_bytes(source: &[u8], from: usize, s: &mut [u8]) -> usize {
+// ---- filling slices from one place to another; each answers the place after what it took
+fn fill_bytes(source: &[u8], from: usize, s: &mut [u8], first: usize, last: usize) -> usize {
     let mut at = from;
-    let mut i = 0;
-    while i < s.len() {
+    let mut i = first;
+    while i < s.len() && i < last {
         s[i] = byte_at(source, at);
         at = past(source, at, 1);
         i += 1;
@@ -194,10 +238,10 @@ fn fill_bytes(source: &[u8], from: usize, s: &mut [u8]) -> usize {
     at
 }
 
-fn fill_shorts(source: &[u8], from: usize, s: &mut [u16]) -> usize {
+fn fill_shorts(source: &[u8], from: usize, s: &mut [u16], first: usize, last: usize) -> usize {
     let mut at = from;
-    let mut i = 0;
-    while i < s.len() {
+    let mut i = first;
+    while i < s.len() && i < last {
         s[i] = short_at(source, at);
         at = past(source, at, 2);
         i += 1;
@@ -205,10 +249,10 @@ fn fill_shorts(source: &[u8], from: usize, s: &mut [u16]) -> usize {
     at
 }
 
-fn fill_longs(source: &[u8], from: usize, s: &mut [u32]) -> usize {
+fn fill_longs(source: &[u8], from: usize, s: &mut [u32], first: usize, last: usize) -> usize {
     let mut at = from;
-    let mut i = 0;
-    while i < s.len() {
+    let mut i = first;
+    while i < s.len() && i < last {
         s[i] = long_at(source, at);
         at = past(source, at, 4);
         i += 1;
@@ -216,10 +260,10 @@ fn fill_longs(source: &[u8], from: usize, s: &mut [u32]) -> usize {
     at
 }
 
-fn fill_words(source: &[u8], from: usize, s: &mut [u64]) -> usize {
+fn fill_words(source: &[u8], from: usize, s: &mut [u64], first: usize, last: usize) -> usize {
     let mut at = from;
-    let mut i = 0;
-    while i < s.len() {
+    let mut i = first;
+    while i < s.len() && i < last {
         s[i] = word_at(source, at);
         at = past(source, at, 8);
         i += 1;
@@ -228,7 +272,10 @@ fn fill_words(source: &[u8], from: usize, s: &mut [u64]) -> usize {
 }
 
 fn fill_memory(
-    elements: &[u8],
+    source: &[u8],
+    from: usize,
+    first: Lengths,
+    last: Lengths,
     filter: &mut [u8],
     xors: &mut [u8],
     flows: &mut [u16],
@@ -240,21 +287,21 @@ fn fill_memory(
     counts: &mut [u32],
     flags: &mut [u8],
 ) {
-    let a = fill_bytes(elements, 0, filter);
-    let b = fill_bytes(elements, a, xors);
-    let c = fill_shorts(elements, b, flows);
-    let d = fill_longs(elements, c, packets);
-    let e = fill_shorts(elements, d, unknowns);
-    let f = fill_shorts(elements, e, positions);
-    let g = fill_words(elements, f, marks);
-    let h = fill_bytes(elements, g, keys);
-    let i = fill_longs(elements, h, counts);
-    fill_bytes(elements, i, flags);
+    let a = fill_bytes(source, from, filter, first.filter, last.filter);
+    let b = fill_bytes(source, a, xors, first.xors, last.xors);
+    let c = fill_shorts(source, b, flows, first.flows, last.flows);
+    let d = fill_longs(source, c, packets, first.packets, last.packets);
+    let e = fill_shorts(source, d, unknowns, first.unknowns, last.unknowns);
+    let f = fill_shorts(source, e, positions, first.positions, last.positions);
+    let g = fill_words(source, f, marks, first.marks, last.marks);
+    let h = fill_bytes(source, g, keys, first.keys, last.keys);
+    let i = fill_longs(source, h, counts, first.counts, last.counts);
+    fill_bytes(source, i, flags, first.flags, last.flags);
 }
 
 // A space, and a dot where nothing follows.
-fn say_gap(n: usize) {
-    if n == 0 {
+fn say_gap(first: usize, last: usize) {
+    if last <= first {
         telling::say(b" .");
         return;
     }
@@ -265,10 +312,10 @@ fn say_short(x: u16) {
     io::print_hex(STDOUT_FILENO, x as u64, 4);
 }
 
-fn say_shorts(s: &[u16]) {
-    say_gap(s.len());
-    let mut i = 0;
-    while i < s.len() {
+fn say_shorts(s: &[u16], first: usize, last: usize) {
+    say_gap(first, last);
+    let mut i = first;
+    while i < s.len() && i < last {
         say_short(s[i]);
         i += 1;
     }
@@ -278,25 +325,37 @@ fn say_long(x: u32) {
     io::print_hex(STDOUT_FILENO, x as u64, 8);
 }
 
-fn say_longs(s: &[u32]) {
-    say_gap(s.len());
-    let mut i = 0;
-    while i < s.len() {
+fn say_longs(s: &[u32], first: usize, last: usize) {
+    say_gap(first, last);
+    let mut i = first;
+    while i < s.len() && i < last {
         say_long(s[i]);
         i += 1;
     }
 }
 
-fn say_words(s: &[u64]) {
-    say_gap(s.len());
-    let mut i = 0;
-    while i < s.len() {
+fn say_words(s: &[u64], first: usize, last: usize) {
+    say_gap(first, last);
+    let mut i = first;
+    while i < s.len() && i < last {
         io::print_hex(STDOUT_FILENO, s[i], 16);
         i += 1;
     }
 }
 
+fn say_bytes(s: &[u8], first: usize, last: usize) {
+    if s.len() < last {
+        return;
+    }
+    if last < first {
+        return;
+    }
+    telling::say_buffer(&s[first..last]);
+}
+
 fn say_memory(
+    first: Lengths,
+    last: Lengths,
     filter: &[u8],
     xors: &[u8],
     flows: &[u16],
@@ -308,16 +367,51 @@ fn say_memory(
     counts: &[u32],
     flags: &[u8],
 ) {
-    telling::say_buffer(filter);
-    telling::say_buffer(xors);
-    say_shorts(flows);
-    say_longs(packets);
-    say_shorts(unknowns);
-    say_shorts(positions);
-    say_words(marks);
-    telling::say_buffer(keys);
-    say_longs(counts);
-    telling::say_buffer(flags);
+    say_bytes(filter, first.filter, last.filter);
+    say_bytes(xors, first.xors, last.xors);
+    say_shorts(flows, first.flows, last.flows);
+    say_longs(packets, first.packets, last.packets);
+    say_shorts(unknowns, first.unknowns, last.unknowns);
+    say_shorts(positions, first.positions, last.positions);
+    say_words(marks, first.marks, last.marks);
+    say_bytes(keys, first.keys, last.keys);
+    say_longs(counts, first.counts, last.counts);
+    say_bytes(flags, first.flags, last.flags);
+}
+
+// The memory of session B, which only request 10 has.
+fn say_second(
+    op: u8,
+    first: Lengths,
+    last: Lengths,
+    filter: &[u8],
+    xors: &[u8],
+    flows: &[u16],
+    packets: &[u32],
+    unknowns: &[u16],
+    positions: &[u16],
+    marks: &[u64],
+    keys: &[u8],
+    counts: &[u32],
+    flags: &[u8],
+) {
+    if op != 10 {
+        return;
+    }
+    say_memory(
+        first,
+        last,
+        filter,
+        xors,
+        flows,
+        packets,
+        unknowns,
+        positions,
+        marks,
+        keys,
+        counts,
+        flags,
+    );
 }
 
 fn say_two(number: u64, n: usize) {
@@ -396,6 +490,66 @@ fn say_handed(a: HandOver) {
         HandOver::EmptyCell => telling::say_number(11),
         HandOver::TooMany => telling::say_number(12),
         HandOver::BadRoom => telling::say_number(16),
+    }
+}
+
+fn say_lists(twelves: usize, a: usize, b: usize) {
+    telling::say_next(twelves as u64);
+    telling::say_next(a as u64);
+    telling::say_next(b as u64);
+}
+
+fn say_done(twelves: usize, a: usize, b: usize) {
+    telling::say_number(0);
+    say_lists(twelves, a, b);
+}
+
+fn say_stopped(number: u64, switch: &[u8], cell: usize) {
+    telling::say_number(number);
+    telling::say(switch);
+    telling::say_next(cell as u64);
+}
+
+fn say_full(switch: &[u8], cell: usize, twelves: usize, a: usize, b: usize) {
+    say_stopped(13, switch, cell);
+    say_lists(twelves, a, b);
+}
+
+fn say_damaged(switch: &[u8], cell: usize, twelves: usize, a: usize, b: usize) {
+    say_stopped(14, switch, cell);
+    say_lists(twelves, a, b);
+}
+
+fn say_exchanged(x: Exchanged) {
+    match x {
+        Exchanged::Done { a, b, twelves } => say_done(twelves, a, b),
+        Exchanged::FullA {
+            cell,
+            a,
+            b,
+            twelves,
+        } => say_full(b" A", cell, twelves, a, b),
+        Exchanged::DamagedA {
+            cell,
+            a,
+            b,
+            twelves,
+        } => say_damaged(b" A", cell, twelves, a, b),
+        Exchanged::FullB {
+            cell,
+            a,
+            b,
+            twelves,
+        } => say_full(b" B", cell, twelves, a, b),
+        Exchanged::DamagedB {
+            cell,
+            a,
+            b,
+            twelves,
+        } => say_damaged(b" B", cell, twelves, a, b),
+        Exchanged::NotSession => telling::say_number(8),
+        Exchanged::OtherSlot => telling::say_number(15),
+        Exchanged::BadRoom => telling::say_number(16),
     }
 }
 
@@ -529,8 +683,8 @@ fn call_on(
     );
 }
 
-// The call that a request names, and its answer.
-fn call(
+// A call on one session, and its answer.
+fn call_alone(
     op: u8,
     p: &[u8],
     filter: &mut [u8],
@@ -576,10 +730,62 @@ fn call(
     );
 }
 
-// A request in a memory: what it holds before, the call, what it holds after.
+// The call that a request names, and its answer.
+fn call(
+    op: u8,
+    p: &[u8],
+    q: &[u8],
+    filter: &mut [u8],
+    xors: &mut [u8],
+    flows: &mut [u16],
+    packets: &mut [u32],
+    unknowns: &mut [u16],
+    positions: &mut [u16],
+    marks: &mut [u64],
+    keys: &mut [u8],
+    counts: &mut [u32],
+    flags: &mut [u8],
+) {
+    if op == 10 {
+        say_exchanged(exchange::exchange(
+            session_at(p),
+            session_at(q),
+            filter,
+            xors,
+            flows,
+            packets,
+            unknowns,
+            positions,
+            marks,
+            keys,
+            counts,
+            flags,
+        ));
+        return;
+    }
+    call_alone(
+        op,
+        p,
+        filter,
+        xors,
+        flows,
+        packets,
+        unknowns,
+        positions,
+        marks,
+        keys,
+        counts,
+        flags,
+    );
+}
+
+// A request in a memory: what it holds before, the call, what it holds after. The elements of session q, if there is one, lie behind the others.
 fn run(
     op: u8,
     p: &[u8],
+    q: &[u8],
+    lengths: &[u8],
+    others: &[u8],
     elements: &[u8],
     filter: &mut [u8],
     xors: &mut [u8],
@@ -592,8 +798,29 @@ fn run(
     counts: &mut [u32],
     flags: &mut [u8],
 ) {
+    let m = lengths_at(lengths);
+    let e = ends_at(lengths, others);
     fill_memory(
         elements,
+        0,
+        no_lengths(),
+        m,
+        filter,
+        xors,
+        flows,
+        packets,
+        unknowns,
+        positions,
+        marks,
+        keys,
+        counts,
+        flags,
+    );
+    fill_memory(
+        q,
+        46,
+        m,
+        e,
         filter,
         xors,
         flows,
@@ -608,6 +835,7 @@ fn run(
     call(
         op,
         p,
+        q,
         filter,
         xors,
         flows,
@@ -620,6 +848,23 @@ fn run(
         flags,
     );
     say_memory(
+        no_lengths(),
+        m,
+        filter,
+        xors,
+        flows,
+        packets,
+        unknowns,
+        positions,
+        marks,
+        keys,
+        counts,
+        flags,
+    );
+    say_second(
+        op,
+        m,
+        e,
         filter,
         xors,
         flows,
@@ -634,34 +879,34 @@ fn run(
 }
 
 // ---- the lent memory: each slice is the front of room that has at least 8 elements more
-fn bytes_room() -> [u8; 40968]
-    ensures { λ r. ⌜ 40968 ≡ length r ⌝ }
+fn bytes_room() -> [u8; 81928]
+    ensures { λ r. ⌜ 81928 ≡ length r ⌝ }
 {
-    [0xA5; 40968]
+    [0xA5; 81928]
 }
 
-fn shorts_room() -> [u16; 2056]
-    ensures { λ r. ⌜ 2056 ≡ length r ⌝ }
-{
-    [0xA5A5; 2056]
-}
-
-fn longs_room() -> [u32; 4104]
+fn shorts_room() -> [u16; 4104]
     ensures { λ r. ⌜ 4104 ≡ length r ⌝ }
 {
-    [0xA5A5A5A5; 4104]
+    [0xA5A5; 4104]
 }
 
-fn words_room() -> [u64; 48]
-    ensures { λ r. ⌜ 48 ≡ length r ⌝ }
+fn longs_room() -> [u32; 8200]
+    ensures { λ r. ⌜ 8200 ≡ length r ⌝ }
 {
-    [0xA5A5A5A5A5A5A5A5; 48]
+    [0xA5A5A5A5; 8200]
+}
+
+fn words_room() -> [u64; 88]
+    ensures { λ r. ⌜ 88 ≡ length r ⌝ }
+{
+    [0xA5A5A5A5A5A5A5A5; 88]
 }
 
 // Whether all behind the first n is as it was.
-fn whole_bytes(room: &[u8; 40968], n: usize) -> bool {
+fn whole_bytes(room: &[u8; 81928], n: usize) -> bool {
     let mut i = n;
-    while i < 40968 {
+    while i < 81928 {
         if room[i] != 0xA5 {
             return false;
         }
@@ -670,9 +915,9 @@ fn whole_bytes(room: &[u8; 40968], n: usize) -> bool {
     true
 }
 
-fn whole_shorts(room: &[u16; 2056], n: usize) -> bool {
+fn whole_shorts(room: &[u16; 4104], n: usize) -> bool {
     let mut i = n;
-    while i < 2056 {
+    while i < 4104 {
         if room[i] != 0xA5A5 {
             return false;
         }
@@ -681,9 +926,9 @@ fn whole_shorts(room: &[u16; 2056], n: usize) -> bool {
     true
 }
 
-fn whole_longs(room: &[u32; 4104], n: usize) -> bool {
+fn whole_longs(room: &[u32; 8200], n: usize) -> bool {
     let mut i = n;
-    while i < 4104 {
+    while i < 8200 {
         if room[i] != 0xA5A5A5A5 {
             return false;
         }
@@ -692,9 +937,9 @@ fn whole_longs(room: &[u32; 4104], n: usize) -> bool {
     true
 }
 
-fn whole_words(room: &[u64; 48], n: usize) -> bool {
+fn whole_words(room: &[u64; 88], n: usize) -> bool {
     let mut i = n;
-    while i < 48 {
+    while i < 88 {
         if room[i] != 0xA5A5A5A5A5A5A5A5 {
             return false;
         }
@@ -707,7 +952,9 @@ fn whole_words(room: &[u64; 48], n: usize) -> bool {
 fn lend_list(
     op: u8,
     p: &[u8],
+    q: &[u8],
     lengths: &[u8],
+    others: &[u8],
     elements: &[u8],
     filter: &mut [u8],
     xors: &mut [u8],
@@ -717,7 +964,7 @@ fn lend_list(
     positions: &mut [u16],
     marks: &mut [u64],
 ) -> bool {
-    let m = lengths_at(lengths);
+    let m = ends_at(lengths, others);
     let mut keys = bytes_room();
     let mut counts = longs_room();
     let mut flags = bytes_room();
@@ -727,6 +974,9 @@ fn lend_list(
     run(
         op,
         p,
+        q,
+        lengths,
+        others,
         elements,
         filter,
         xors,
@@ -743,8 +993,8 @@ fn lend_list(
 }
 
 // Lends a memory of the lengths asked for; whether nothing behind what is lent changed.
-fn lend(op: u8, p: &[u8], lengths: &[u8], elements: &[u8]) -> bool {
-    let m = lengths_at(lengths);
+fn lend(op: u8, p: &[u8], q: &[u8], lengths: &[u8], others: &[u8], elements: &[u8]) -> bool {
+    let m = ends_at(lengths, others);
     let mut filter = bytes_room();
     let mut xors = bytes_room();
     let mut flows = shorts_room();
@@ -762,7 +1012,9 @@ fn lend(op: u8, p: &[u8], lengths: &[u8], elements: &[u8]) -> bool {
     let list = lend_list(
         op,
         p,
+        q,
         lengths,
+        others,
         elements,
         &mut filter[..a],
         &mut xors[..b],
@@ -777,9 +1029,9 @@ fn lend(op: u8, p: &[u8], lengths: &[u8], elements: &[u8]) -> bool {
     list & bytes & shorts & whole_longs(&packets, d) & whole_words(&marks, g)
 }
 
-// The line of a request, with the memory after the call.
-fn answer_in_memory(op: u8, p: &[u8], lengths: &[u8], elements: &[u8]) {
-    if !lend(op, p, lengths, elements) {
+// The line of a request, with the memory after the call; q is session B of request 10, else empty.
+fn answer_in_memory(op: u8, p: &[u8], q: &[u8], lengths: &[u8], others: &[u8], elements: &[u8]) {
+    if !lend(op, p, q, lengths, others, elements) {
         telling::say(b" guard");
     }
     telling::say(b"\n");
@@ -801,7 +1053,7 @@ fn answer_open(p: &[u8]) {
     }
     let mut noise = [0u8; 110912];
     telling::fill_random(&mut noise, long_at(p, 34));
-    answer_in_memory(6, p, lengths, &noise);
+    answer_in_memory(6, p, b"", lengths, b"", &noise);
 }
 
 // How many bytes a request has behind its session.
@@ -831,13 +1083,55 @@ fn answer_session(op: u8, p: &[u8]) {
         telling::say(b"length\n");
         return;
     }
-    answer_in_memory(op, p, lengths, &p[to..]);
+    answer_in_memory(op, p, b"", lengths, b"", &p[to..]);
+}
+
+// Request 10, where session A is whole and q is what lies behind it.
+fn answer_second(p: &[u8], q: &[u8], lengths: &[u8], elements: &[u8]) {
+    if q.len() < 46 {
+        telling::say(b"length\n");
+        return;
+    }
+    let from = 16;
+    let to = 46;
+    let others = &q[from..to];
+    if !lengths_hold(others) {
+        telling::say(b"length\n");
+        return;
+    }
+    if q.len() != 46 + element_bytes(others) {
+        telling::say(b"length\n");
+        return;
+    }
+    answer_in_memory(10, p, q, lengths, others, elements);
+}
+
+// Request 10: two sessions, A's memory before B's.
+fn answer_exchange(p: &[u8]) {
+    if p.len() < 46 {
+        telling::say(b"length\n");
+        return;
+    }
+    let from = 16;
+    let to = 46;
+    let lengths = &p[from..to];
+    if !lengths_hold(lengths) {
+        telling::say(b"length\n");
+        return;
+    }
+    let end = 46 + element_bytes(lengths);
+    if p.len() < end {
+        telling::say(b"length\n");
+        return;
+    }
+    answer_second(p, &p[end..], lengths, &p[to..end]);
 }
 
 fn answer(op: u8, payload: &[u8]) {
     match op {
         6 => answer_open(payload),
         7 | 8 | 9 => answer_session(op, payload),
+        10 => answer_exchange(payload),
         _ => telling::say(b"op\n"),
     }
 }

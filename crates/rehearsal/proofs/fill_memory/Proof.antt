@@ -48,7 +48,11 @@ same-length-2 c =
     e3 .fill-bytes2 .kept .1 .1 .0
 
 same-length-3 : tie.Need-same-length-3
-same-length-3 c = search needs
+same-length-3 c =
+    let e1 = c .before .before .before .before .before .before .before .before .before .before .before .before .before .before in
+    let e2 = e1 .before .before .before .before .before .before .before .before .before .before .before .before .before .before in
+    let e3 = e2 .before .before in
+    e3 .fill-shorts .kept .1 .1 .0
 
 same-length-4 : tie.Need-same-length-4
 same-length-4 c = search needs

@@ -1,5 +1,5 @@
 -- `rehearsal::fill_words` meets its contract.
-use Prim.Native.Nat.{_≤_, _-_}
+use Prim.Native.Nat.{_-_}
 use mathlib.Core.Path.{_≡_}
 use native.Mathlib.Omega.{arith}
 use lib.ListN.{length, length-set}
@@ -7,10 +7,10 @@ use Rattle.rehearsal.proofs.fill_words.Statement.{statement}
 use Rattle.rehearsal.proofs.fill_words.Tie as tie
 
 abbrev Inv-loop : tie.InvT-loop
-Inv-loop source from s₀ at₀ i₀ s at i = (i ≤ length s₀) × (length s ≡ length s₀)
+Inv-loop source from s₀ first last at₀ i₀ s at i = length s ≡ length s₀
 
 abbrev μ-loop : tie.MeasureT-loop
-μ-loop source from s₀ at₀ i₀ s at i = length s₀ - i
+μ-loop source from s₀ first last at₀ i₀ s at i = length s₀ - i
 
 loop-holds : tie.Need-loop-holds Inv-loop μ-loop
 loop-holds c = omega arith
@@ -34,13 +34,19 @@ loop-less : tie.Need-loop-less Inv-loop μ-loop
 loop-less c = omega arith
 
 loop-again : tie.Need-loop-again Inv-loop μ-loop
-loop-again c = (omega arith, simp length-set (omega arith))
+loop-again c = simp length-set (omega arith)
 
 same-length : tie.Need-same-length Inv-loop μ-loop
 same-length c = omega arith
 
 returns : tie.Need-returns Inv-loop μ-loop
 returns c = omega arith
+
+same-length-2 : tie.Need-same-length-2 Inv-loop μ-loop
+same-length-2 c = omega arith
+
+returns-2 : tie.Need-returns-2 Inv-loop μ-loop
+returns-2 c = omega arith
 
 pub fill-words-spec : {M : Type 1} → statement M
 fill-words-spec =
@@ -57,4 +63,6 @@ fill-words-spec =
     loop-less
     loop-again
     same-length
-    returns)
+    returns
+    same-length-2
+    returns-2)

@@ -6,8 +6,8 @@ use borrow.Author.Needs.{needs}
 use Rattle.rehearsal.proofs.lend.Statement.{statement}
 use Rattle.rehearsal.proofs.lend.Tie as tie
 
-lengths-at-requires : tie.Need-lengths-at-requires
-lengths-at-requires c κs = search needs
+ends-at-requires : tie.Need-ends-at-requires
+ends-at-requires c κs = search needs
 
 bytes-room-requires : tie.Need-bytes-room-requires
 bytes-room-requires c κs = search needs
@@ -37,7 +37,7 @@ slice-aggregate-lend-list : tie.Need-slice-aggregate-lend-list
 slice-aggregate-lend-list c =
     let e1 = c .before .before .before .before .before .before .before in
     let e2 = e1 .before in
-    sym (length-take-le (e2 .lengths-at .result .filter) (e1 .bytes-room .result) (omega arith))
+    sym (length-take-le (e2 .ends-at .result .filter) (e1 .bytes-room .result) (omega arith))
 
 array-borrow-prefix-xors : tie.Need-array-borrow-prefix-xors
 array-borrow-prefix-xors c = search needs
@@ -46,7 +46,7 @@ slice-aggregate-lend-list-2 : tie.Need-slice-aggregate-lend-list-2
 slice-aggregate-lend-list-2 c =
     let e1 = c .before .before .before .before .before .before .before in
     let e2 = e1 .before .before in
-    sym (length-take-le (e2 .lengths-at .result .xors) (e1 .bytes-room2 .result) (omega arith))
+    sym (length-take-le (e2 .ends-at .result .xors) (e1 .bytes-room2 .result) (omega arith))
 
 array-borrow-prefix-flows : tie.Need-array-borrow-prefix-flows
 array-borrow-prefix-flows c = search needs
@@ -55,7 +55,7 @@ slice-aggregate-lend-list-3 : tie.Need-slice-aggregate-lend-list-3
 slice-aggregate-lend-list-3 c =
     let e1 = c .before .before .before .before .before .before .before in
     let e2 = e1 .before .before .before in
-    sym (length-take-le (e2 .lengths-at .result .flows) (e1 .shorts-room .result) (omega arith))
+    sym (length-take-le (e2 .ends-at .result .flows) (e1 .shorts-room .result) (omega arith))
 
 array-borrow-prefix-packets : tie.Need-array-borrow-prefix-packets
 array-borrow-prefix-packets c = search needs
@@ -64,7 +64,7 @@ slice-aggregate-lend-list-4 : tie.Need-slice-aggregate-lend-list-4
 slice-aggregate-lend-list-4 c =
     let e1 = c .before .before .before .before .before .before .before in
     let e2 = e1 .before .before .before .before in
-    sym (length-take-le (e2 .lengths-at .result .packets) (e1 .longs-room .result) (omega arith))
+    sym (length-take-le (e2 .ends-at .result .packets) (e1 .longs-room .result) (omega arith))
 
 array-borrow-prefix-unknowns : tie.Need-array-borrow-prefix-unknowns
 array-borrow-prefix-unknowns c = search needs
@@ -73,7 +73,7 @@ slice-aggregate-lend-list-5 : tie.Need-slice-aggregate-lend-list-5
 slice-aggregate-lend-list-5 c =
     let e1 = c .before .before .before .before .before .before .before in
     let e2 = e1 .before .before .before .before .before in
-    sym (length-take-le (e2 .lengths-at .result .unknowns) (e1 .shorts-room2 .result) (omega arith))
+    sym (length-take-le (e2 .ends-at .result .unknowns) (e1 .shorts-room2 .result) (omega arith))
 
 array-borrow-prefix-positions : tie.Need-array-borrow-prefix-positions
 array-borrow-prefix-positions c = search needs
@@ -82,7 +82,7 @@ slice-aggregate-lend-list-6 : tie.Need-slice-aggregate-lend-list-6
 slice-aggregate-lend-list-6 c =
     let e1 = c .before .before .before .before .before .before .before in
     let e2 = e1 .before .before .before .before .before .before in
-    sym (length-take-le (e2 .lengths-at .result .positions) (e1 .shorts-room3 .result) (omega arith))
+    sym (length-take-le (e2 .ends-at .result .positions) (e1 .shorts-room3 .result) (omega arith))
 
 array-borrow-prefix-marks : tie.Need-array-borrow-prefix-marks
 array-borrow-prefix-marks c = search needs
@@ -91,7 +91,7 @@ slice-aggregate-lend-list-7 : tie.Need-slice-aggregate-lend-list-7
 slice-aggregate-lend-list-7 c =
     let e1 = c .before .before .before .before .before .before .before in
     let e2 = e1 .before .before .before .before .before .before .before in
-    sym (length-take-le (e2 .lengths-at .result .marks) (e1 .words-room .result) (omega arith))
+    sym (length-take-le (e2 .ends-at .result .marks) (e1 .words-room .result) (omega arith))
 
 lend-list-requires : tie.Need-lend-list-requires
 lend-list-requires c κs = search needs
@@ -124,7 +124,7 @@ pub lend-spec : {M : Type 1} → statement M
 lend-spec =
     tie.close
     (tie.spec
-    lengths-at-requires
+    ends-at-requires
     bytes-room-requires
     bytes-room-requires-2
     shorts-room-requires

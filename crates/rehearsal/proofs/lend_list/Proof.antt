@@ -6,8 +6,8 @@ use borrow.Author.Needs.{needs}
 use Rattle.rehearsal.proofs.lend_list.Statement.{statement}
 use Rattle.rehearsal.proofs.lend_list.Tie as tie
 
-lengths-at-requires : tie.Need-lengths-at-requires
-lengths-at-requires c κs = search needs
+ends-at-requires : tie.Need-ends-at-requires
+ends-at-requires c κs = search needs
 
 bytes-room-requires : tie.Need-bytes-room-requires
 bytes-room-requires c κs = search needs
@@ -25,7 +25,7 @@ slice-aggregate-run : tie.Need-slice-aggregate-run
 slice-aggregate-run c =
     let e1 = c .before .before .before .before .before .before .before .before .before .before in
     let e2 = e1 .before in
-    sym (length-take-le (e2 .lengths-at .result .keys) (e1 .bytes-room .result) (omega arith))
+    sym (length-take-le (e2 .ends-at .result .keys) (e1 .bytes-room .result) (omega arith))
 
 array-borrow-prefix-counts : tie.Need-array-borrow-prefix-counts
 array-borrow-prefix-counts c = search needs
@@ -34,7 +34,7 @@ slice-aggregate-run-2 : tie.Need-slice-aggregate-run-2
 slice-aggregate-run-2 c =
     let e1 = c .before .before .before .before .before .before .before .before .before .before in
     let e2 = e1 .before .before in
-    sym (length-take-le (e2 .lengths-at .result .counts) (e1 .longs-room .result) (omega arith))
+    sym (length-take-le (e2 .ends-at .result .counts) (e1 .longs-room .result) (omega arith))
 
 array-borrow-prefix-flags : tie.Need-array-borrow-prefix-flags
 array-borrow-prefix-flags c = search needs
@@ -43,7 +43,7 @@ slice-aggregate-run-3 : tie.Need-slice-aggregate-run-3
 slice-aggregate-run-3 c =
     let e1 = c .before .before .before .before .before .before .before .before .before .before in
     let e2 = e1 .before .before .before in
-    sym (length-take-le (e2 .lengths-at .result .flags) (e1 .bytes-room2 .result) (omega arith))
+    sym (length-take-le (e2 .ends-at .result .flags) (e1 .bytes-room2 .result) (omega arith))
 
 run-requires : tie.Need-run-requires
 run-requires c κs = search needs
@@ -85,7 +85,7 @@ pub lend-list-spec : {M : Type 1} → statement M
 lend-list-spec =
     tie.close
     (tie.spec
-    lengths-at-requires
+    ends-at-requires
     bytes-room-requires
     longs-room-requires
     bytes-room-requires-2

@@ -6,10 +6,10 @@ use Rattle.rehearsal.proofs.say_shorts.Statement.{statement}
 use Rattle.rehearsal.proofs.say_shorts.Tie as tie
 
 abbrev Inv-loop : tie.InvT-loop
-Inv-loop s i₀ i = i ≤ length s
+Inv-loop s first last i₀ i = first ≤ i
 
 abbrev μ-loop : tie.MeasureT-loop
-μ-loop s i₀ i = length s - i
+μ-loop s first last i₀ i = length s - i
 
 say-gap-requires : tie.Need-say-gap-requires Inv-loop μ-loop
 say-gap-requires c κs = omega arith
@@ -38,6 +38,9 @@ loop-again c = omega arith
 returns : tie.Need-returns Inv-loop μ-loop
 returns c = omega arith
 
+returns-2 : tie.Need-returns-2 Inv-loop μ-loop
+returns-2 c = omega arith
+
 pub say-shorts-spec : {M : Type 1} → statement M
 say-shorts-spec =
     tie.close
@@ -52,4 +55,5 @@ say-shorts-spec =
     add-i
     loop-less
     loop-again
-    returns)
+    returns
+    returns-2)

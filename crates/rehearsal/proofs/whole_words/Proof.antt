@@ -8,7 +8,7 @@ abbrev Inv-loop : tie.InvT-loop
 Inv-loop room n i₀ i = n ≤ i
 
 abbrev μ-loop : tie.MeasureT-loop
-μ-loop room n i₀ i = 48 - i
+μ-loop room n i₀ i = 88 - i
 
 loop-holds : tie.Need-loop-holds Inv-loop μ-loop
 loop-holds c = omega arith
