@@ -8,7 +8,8 @@
  * A buffer is lent as a pointer and a length in elements (not bytes), one after the other. Its length must be the very one that is said below:
  * a longer buffer is refused too, with ELDERFLUTE_ROOM. Any bytes may stand in it, and any numbers may be passed: each call answers for all of them.
  * What C must hold to: no pointer is null, also where the length is 0; a pointer is aligned for its elements; buffers that a call writes
- * overlap with no other one; `numbers` points to ELDERFLUTE_NUMBERS, `key` to ELDERFLUTE_KEY_BYTES and `figures` to ELDERFLUTE_FIGURES elements.
+ * overlap with no other one; `numbers` points to ELDERFLUTE_NUMBERS, `key` to ELDERFLUTE_KEY_BYTES, `figures` to ELDERFLUTE_FIGURES and
+ * `told` to ELDERFLUTE_TOLD elements.
  *
  * On every refusal but ELDERFLUTE_DAMAGE and ELDERFLUTE_LIST_FULL all that is lent stays as it was, except for *block.
  */
@@ -37,8 +38,8 @@ enum elderflute_number {
     ELDERFLUTE_LISTED = 10,       /* hand-over: the key is listed already */
     ELDERFLUTE_EMPTY_CELL = 11,   /* hand-over: one of the key's cells has FlowCount 0 */
     ELDERFLUTE_TOO_MANY = 12,     /* hand-over: N flows were handed over already */
-    ELDERFLUTE_LIST_FULL = 13,    /* settle: 2 N flows are listed; it cannot occur */
-    ELDERFLUTE_DAMAGE = 14,       /* settle: the cells contradict each other */
+    ELDERFLUTE_LIST_FULL = 13,    /* settle, exchange: 2 N flows are listed; it cannot occur */
+    ELDERFLUTE_DAMAGE = 14,       /* settle, exchange: the cells contradict each other */
     ELDERFLUTE_SLOTS_DIFFER = 15, /* exchange of two different slots */
     ELDERFLUTE_ROOM = 16          /* lent room of the wrong length */
 };
@@ -55,6 +56,9 @@ enum { ELDERFLUTE_KF, ELDERFLUTE_F, ELDERFLUTE_K, ELDERFLUTE_Q, ELDERFLUTE_SALT,
 
 /* Places in the figures of a report. */
 enum { ELDERFLUTE_LISTED_FLOWS, ELDERFLUTE_COUNTED_FLOWS, ELDERFLUTE_OPEN_CELLS, ELDERFLUTE_STATE, ELDERFLUTE_FIGURES };
+
+/* Places in what an exchange tells: hand-overs answered with 12; the switch that a LIST_FULL or DAMAGE is of (1 A, 2 B, else 0); its cell. */
+enum { ELDERFLUTE_TWELVES, ELDERFLUTE_SWITCH, ELDERFLUTE_CELL, ELDERFLUTE_TOLD };
 
 /* Bits of a listed flow's flags. */
 enum { ELDERFLUTE_KNOWN = 1, ELDERFLUTE_HANDED = 2 };
@@ -144,6 +148,19 @@ uint32_t elderflute_settle(const uint32_t *numbers, size_t *listed, size_t *cell
                            uint16_t *unknowns, size_t unknowns_length, uint16_t *positions, size_t positions_length, uint64_t *marks,
                            size_t marks_length, uint8_t *keys, size_t keys_length, uint32_t *counts, size_t counts_length, uint8_t *flags,
                            size_t flags_length);
+
+/*
+ * Exchanges the lists of two sessions A and B of one slot: both are settled, each list is handed over to the other session, both are settled again,
+ * until a round in which neither list grew. Each buffer holds A's part and right behind it B's: its length is the sum of the two lengths of its kind
+ * (marks: ELDERFLUTE_MARKS of A and of B).
+ * DONE: *listed_a and *listed_b flows are listed, told has the hand-overs that were answered with 12. NOT_SESSION for a size of either, ROOM, NOT_SESSION
+ * for the rest of either, SLOTS_DIFFER; tested in this order. DAMAGE and LIST_FULL: told names the switch and the cell, the steps before it stand.
+ */
+uint32_t elderflute_exchange(const uint32_t *numbers_a, size_t *listed_a, const uint32_t *numbers_b, size_t *listed_b, size_t *told, const
+                             uint8_t *filter, size_t filter_length, uint8_t *xors, size_t xors_length, uint16_t *flows, size_t flows_length,
+                             uint32_t *packets, size_t packets_length, uint16_t *unknowns, size_t unknowns_length, uint16_t *positions,
+                             size_t positions_length, uint64_t *marks, size_t marks_length, uint8_t *keys, size_t keys_length, uint32_t
+                             *counts, size_t counts_length, uint8_t *flags, size_t flags_length);
 
 /*
  * Reports on a session, worked out anew from list and cells.

@@ -415,6 +415,55 @@ impl Session {
     }
 }
 
+/// Why and where an exchange stopped.
+#[derive(Clone, Copy, PartialEq, Eq, Debug)]
+pub struct Halted {
+    /// The refusal.
+    pub refusal: Refusal,
+    /// For [`Refusal::Damage`] and [`Refusal::ListFull`]: whether it was A, and the cell.
+    pub at: Option<(bool, usize)>,
+    /// Hand-overs that were answered with 12 until then.
+    pub twelves: usize,
+}
+
+/// Exchanges the lists of two sessions of one slot, whose room is lent joined: of each kind A's part, then B's. Gives the hand-overs that were
+/// answered with 12.
+pub fn exchange(a: &mut Session, b: &mut Session, lent: &mut Lent) -> Result<usize, Halted> {
+    let mut told = [0; 3];
+    let number = unsafe {
+        raw::elderflute_exchange(
+            a.numbers().as_ptr(),
+            &mut a.listed,
+            b.numbers().as_ptr(),
+            &mut b.listed,
+            told.as_mut_ptr(),
+            lent.filter.as_ptr(),
+            lent.filter.len(),
+            lent.xors.as_mut_ptr(),
+            lent.xors.len(),
+            lent.flows.as_mut_ptr(),
+            lent.flows.len(),
+            lent.packets.as_mut_ptr(),
+            lent.packets.len(),
+            lent.unknowns.as_mut_ptr(),
+            lent.unknowns.len(),
+            lent.positions.as_mut_ptr(),
+            lent.positions.len(),
+            lent.marks.as_mut_ptr(),
+            lent.marks.len(),
+            lent.keys.as_mut_ptr(),
+            lent.keys.len(),
+            lent.counts.as_mut_ptr(),
+            lent.counts.len(),
+            lent.flags.as_mut_ptr(),
+            lent.flags.len(),
+        )
+    };
+    let [twelves, switch, cell] = told;
+    let at = |refusal| matches!(refusal, Damage | ListFull).then_some((switch == 1, cell));
+    done(number).map(|()| twelves).map_err(|refusal| Halted { refusal, at: at(refusal), twelves })
+}
+
 /// Writes all that the printing program prints for its standard input into `lines`, and answers how many bytes these are.
 pub fn print(input: &[u8], lines: &mut [u8]) -> Result<usize, Refusal> {
     let mut written = 0;
@@ -509,6 +558,33 @@ mod raw {
             flows: *mut u16,
             flows_length: usize,
             packets: *const u32,
+            packets_length: usize,
+            unknowns: *mut u16,
+            unknowns_length: usize,
+            positions: *mut u16,
+            positions_length: usize,
+            marks: *mut u64,
+            marks_length: usize,
+            keys: *mut u8,
+            keys_length: usize,
+            counts: *mut u32,
+            counts_length: usize,
+            flags: *mut u8,
+            flags_length: usize,
+        ) -> u32;
+        pub fn elderflute_exchange(
+            numbers_a: *const u32,
+            listed_a: *mut usize,
+            numbers_b: *const u32,
+            listed_b: *mut usize,
+            told: *mut usize,
+            filter: *const u8,
+            filter_length: usize,
+            xors: *mut u8,
+            xors_length: usize,
+            flows: *mut u16,
+            flows_length: usize,
+            packets: *mut u32,
             packets_length: usize,
             unknowns: *mut u16,
             unknowns_length: usize,

@@ -143,6 +143,40 @@ fn a_key_handed_over_is_listed_and_its_count_found() {
     assert_eq!((session.listed, room.counts[0], room.flags[0]), (30, 2, HANDED | KNOWN));
 }
 
+/// The rooms of two sessions joined: of each kind A's part, then B's.
+fn joined(a: &Owned, b: &Owned) -> Owned {
+    Owned {
+        filter: [&a.filter[..], &b.filter].concat(),
+        xors: [&a.xors[..], &b.xors].concat(),
+        flows: [&a.flows[..], &b.flows].concat(),
+        packets: [&a.packets[..], &b.packets].concat(),
+        unknowns: [&a.unknowns[..], &b.unknowns].concat(),
+        positions: [&a.positions[..], &b.positions].concat(),
+        marks: [&a.marks[..], &b.marks].concat(),
+        keys: [&a.keys[..], &b.keys].concat(),
+        counts: [&a.counts[..], &b.counts].concat(),
+        flags: [&a.flags[..], &b.flags].concat(),
+    }
+}
+
+#[test]
+fn an_exchange_lists_what_either_finds() {
+    let (mut room_a, mut room_b) = (Owned::new(SIZES), Owned::new(SIZES));
+    let mut a = open(&image_of(30), SLOT, &mut room_a.lend()).unwrap();
+    let mut b = open(&image_of(20), SLOT, &mut room_b.lend()).unwrap();
+    let mut room = joined(&room_a, &room_b);
+    assert_eq!(exchange(&mut a, &mut Session { slot: SLOT + 1, ..b }, &mut room.lend()).unwrap_err().refusal, Refusal::SlotsDiffer);
+    assert_eq!(exchange(&mut a, &mut b, &mut room_a.lend()), Err(Halted { refusal: Refusal::Room, at: None, twelves: 0 }));
+    assert_eq!(exchange(&mut a, &mut b, &mut room.lend()), Ok(0));
+    assert_eq!((a.listed, b.listed), (30, 20));
+    let second = 2 * SIZES.cells();
+    for flow in 0..20u16 {
+        let key = key(&udp(flow * 257)).unwrap();
+        let at = room.keys.chunks(KEY_BYTES).skip(second).take(b.listed).position(|listed| listed == key).unwrap();
+        assert_eq!((room.counts[second + at], room.flags[second + at]), (u32::from(flow) + 1, KNOWN));
+    }
+}
+
 #[test]
 fn damage_names_its_cell_and_a_wrong_mark_is_no_session() {
     let image = image_of(3);

@@ -1,5 +1,5 @@
 /*
- * Answers the requests of tests/PROTOCOL.md through include/elderflute.h: 2, 4 to 9, 11 and 12. All that is lent, the single numbers too, lies between
+ * Answers the requests of tests/PROTOCOL.md through include/elderflute.h: 2 and 4 to 12. All that is lent, the single numbers too, lies between
  * guard bytes; a line ends with ` guard` where a call changed one, and with ` kept` where it changed what a refusal keeps.
  */
 #include <stdio.h>
@@ -284,6 +284,63 @@ static void on_session(int op, struct bytes b) {
     take_back_session(&s);
 }
 
+/* ---- two sessions */
+
+/* One buffer of each kind, A's elements first. */
+static void join(const struct memory *a, const struct memory *b, struct memory *both) {
+    for (int s = 0; s < SLICES; s++) {
+        size_t first = a->length[s] * width_of[s], second = b->length[s] * width_of[s];
+        both->length[s] = a->length[s] + b->length[s];
+        both->slice[s] = lend(first + second);
+        memcpy(in(both->slice[s]), in(a->slice[s]), first);
+        memcpy((uint8_t *)in(both->slice[s]) + first, in(b->slice[s]), second);
+    }
+}
+
+static void part(const struct memory *both, struct memory *a, struct memory *b) {
+    for (int s = 0; s < SLICES; s++) {
+        size_t first = a->length[s] * width_of[s], second = b->length[s] * width_of[s];
+        memcpy(in(a->slice[s]), in(both->slice[s]), first);
+        memcpy(in(b->slice[s]), (uint8_t *)in(both->slice[s]) + first, second);
+    }
+}
+
+static void exchange(struct session *a, struct session *b) {
+    struct lent lent_told = lend(ELDERFLUTE_TOLD * sizeof(size_t));
+    size_t *told = in(lent_told), before_a = *listed_in(a), before_b = *listed_in(b);
+    struct memory both;
+    join(&a->memory, &b->memory, &both);
+    uint32_t number =
+        elderflute_exchange(in(a->numbers), in(a->listed), in(b->numbers), in(b->listed), told, MEMORY(&both));
+    part(&both, &a->memory, &b->memory);
+    printf("%u", (unsigned)number);
+    if (number == 0 || number == 13 || number == 14) {
+        if (number)
+            printf(" %c %zu", told[ELDERFLUTE_SWITCH] == 1 ? 'A' : 'B', told[ELDERFLUTE_CELL]);
+        printf(" %zu %zu %zu", told[ELDERFLUTE_TWELVES], *listed_in(a), *listed_in(b));
+    } else {
+        changed |= *listed_in(a) != before_a || *listed_in(b) != before_b;
+        must_be_kept(lent_told);
+    }
+    take_back_memory(&both);
+    take_back(lent_told);
+}
+
+static void on_two(struct bytes b) {
+    struct session first, second;
+    take_session(&b, &first);
+    take_session(&b, &second);
+    if (!b.good || b.left)
+        printf("length");
+    else {
+        exchange(&first, &second);
+        print_memory(&first.memory);
+        print_memory(&second.memory);
+    }
+    take_back_session(&first);
+    take_back_session(&second);
+}
+
 /* ---- images */
 
 /* A copy of what is left, so that a read past its end meets a guard. */
@@ -456,6 +513,7 @@ static void answer(int op, struct bytes b) {
     case 8:
     case 9:
     case 11: on_session(op, b); break;
+    case 10: on_two(b); break;
     case 12: print_input(b); break;
     default: printf("op");
     }

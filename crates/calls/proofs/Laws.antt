@@ -23,9 +23,9 @@ use Rattle.calls.specs.Calls.{Arrays, Ran, ran, taken, first, over}
 
 -- ---- the first records of the arrays
 -- their lengths
-pub first-long : (n : ℕ) (rs : Records) → n ≤ 3072 → Arrays rs
+pub first-long : (most n : ℕ) (rs : Records) → n ≤ most → Arrays most rs
     → (n * 13 ≡ length (take (n * 13) (rs .keys))) × ((n ≡ length (take n (rs .counts))) × (n ≡ length (take n (rs .flags))))
-first-long n rs h a = (
+first-long most n rs h a = (
   sym (length-take-le (n * 13) (rs .keys) (omega (arith, a .keys-fit))),
   (sym (length-take-le n (rs .counts) (omega (arith, a .counts-fit))), sym (length-take-le n (rs .flags) (omega (arith, a .flags-fit)))),
 )
@@ -35,13 +35,20 @@ abbrev pub widened : {A : Type 0} → ℕ → Records → A → Memory → Ran A
 widened n rs answer m = ran answer (memory (m .filter) (m .table) (m .packets) (over n (m .list) rs))
 
 -- ---- how many are taken apart
-pub taken-all : (n : ℕ) → n ≤ 3072 → taken n ≡ n
+pub taken-all : (most n : ℕ) → n ≤ most → taken most n ≡ n
 unfolding taken
-taken-all n h = rw (le-leb n 3072 h)
+taken-all most n h = rw (le-leb n most h)
 
-pub taken-none : (n : ℕ) → 3072 < n → taken n ≡ 0
+pub taken-none : (most n : ℕ) → most < n → taken most n ≡ 0
 unfolding taken
-taken-none n h = rw (lt-leb n 3072 h)
+taken-none most n h = rw (lt-leb n most h)
+
+pub taken-few : (most n : ℕ) → taken most n ≤ most
+taken-few most n = elim (decLt most n) [ yes h ↦ rw (taken-none most n h) (omega arith) | no h ↦ let l : n ≤ most = omega arith in rw (taken-all most n l) l ]
+
+-- no more records than there are
+pub taken-le : (most n : ℕ) → taken most n ≤ n
+taken-le most n = elim (decLt most n) [ yes h ↦ rw (taken-none most n h) (omega arith) | no h ↦ let l : n ≤ most = omega arith in rw (taken-all most n l) (omega arith) ]
 
 -- ---- what was written over the arrays is read from them again
 pub first-over : (n : ℕ) (new rs : Records) → length (new .keys) ≡ n * 13 → length (new .counts) ≡ n → length (new .flags) ≡ n → first n (over n new rs) ≡ new
@@ -79,23 +86,16 @@ together-over list new rs a b c =
     (list-same n (recordAt (over n new rs)) (recordAt new)
     (λ i h. sym (record-first n i (over n new rs) h) ∙ ap (λ x. recordAt x i) (first-over n new rs a b c)))
 
-pub taken-few : (n : ℕ) → taken n ≤ 3072
-taken-few n = elim (decLt 3072 n) [ yes h ↦ rw (taken-none n h) (omega arith) | no h ↦ let l : n ≤ 3072 = omega arith in rw (taken-all n l) l ]
-
--- no more records than there are
-pub taken-le : (n : ℕ) → taken n ≤ n
-taken-le n = elim (decLt 3072 n) [ yes h ↦ rw (taken-none n h) (omega arith) | no h ↦ let l : n ≤ 3072 = omega arith in rw (taken-all n l) (omega arith) ]
-
 -- none of the arrays' records
 pub first-none : (rs : Records) → length (first 0 rs .counts) ≡ 0
 unfolding first
 first-none rs = refl
 
 -- what is written over the arrays, which keep their lengths, is as long as what stood there
-pub over-long : (n : ℕ) (new rs : Records) → n ≤ 3072 → Arrays rs → Arrays (over n new rs)
+pub over-long : (most n : ℕ) (new rs : Records) → n ≤ most → Arrays most rs → Arrays most (over n new rs)
     → (length (new .keys) ≡ n * 13) × ((length (new .counts) ≡ n) × (length (new .flags) ≡ n))
 unfolding over
-over-long n new rs h a b = (
+over-long most n new rs h a b = (
   omega (arith, length-append (new .keys) (drop (n * 13) (rs .keys)), length-drop (n * 13) (rs .keys), a .keys-fit, b .keys-fit),
   (
     omega (arith, length-append (new .counts) (drop n (rs .counts)), length-drop n (rs .counts), a .counts-fit, b .counts-fit),

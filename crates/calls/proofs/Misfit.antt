@@ -2,15 +2,14 @@
 use mathlib.Core.Path.{_≡_, refl, sym, ap, _∙_}
 use mathlib.Core.Bool.{false, not, cond}
 use mathlib.Core.List.{List}
-use mathlib.Core.Logic.{inl, inr}
-use Prim.Native.Nat.{ℕ, _*_, _<_, _≤_}
-use native.Mathlib.Nat.{mul-le-mul}
+use mathlib.Core.Logic.{_⊎_, inl, inr}
+use Prim.Native.Nat.{ℕ, _*_, _<_}
 use native.Mathlib.Omega.{arith}
 use lib.ListN.{length}
 use Rattle.laws.proofs.Bools.{split, refuted}
 use Rattle.layout.specs.declared.Sizes.{Sizes}
 use Rattle.layout.specs.Sizes.{Ranged, inRange, ipv4Layout, tableCells}
-use Rattle.layout.proofs.Ranges.{ranged, lays-ipv4, part-low, table-high}
+use Rattle.layout.proofs.Ranges.{ranged, lays-ipv4, table-low, table-high}
 use Rattle.list.specs.Records.{Records}
 use Rattle.packet.specs.declared.Key.{Key}
 use Rattle.image.specs.declared.Reading.{Reading}
@@ -28,29 +27,24 @@ use Rattle.session.specs.declared.Reported.the-variants as reported
 use Rattle.session.specs.Calls.{Settling, settleOf, Handing, handOver, reportOn}
 use Rattle.calls.specs.Calls.{ran, settling, handing, opening, reporting}
 
--- 2 N is from 1 to 3,072, so that no records are the wrong number, and more than 3,072 are
-abbrev pub Misfit : Records → Type 0
-Misfit rs = (z : Sizes) → Ranged z → length (rs .counts) ≡ 2 * tableCells ipv4Layout z → ⊥
+-- no records, or more than so many
+abbrev pub Misfit : ℕ → Records → Type 0
+Misfit most rs = (length (rs .counts) ≡ 0) ⊎ (most < length (rs .counts))
 
-table-low : (z : Sizes) → Ranged z → 1 ≤ tableCells ipv4Layout z
-unfolding tableCells
-table-low z r = let p = mul-le-mul {n₁ = 1} {m₁ = 1} (let q : 1 ≤ z .k = omega (arith, r .k-low) in q) (part-low ipv4Layout z lays-ipv4 r) in omega arith
+-- 2 N is from 1 to 3,072
+pub wrong-number : (rs : Records) (z : Sizes) → Ranged z → Misfit 3072 rs → length (rs .counts) ≡ 2 * tableCells ipv4Layout z → ⊥
+wrong-number rs z r (inl h) e = omega (arith, table-low ipv4Layout z lays-ipv4 r)
+wrong-number rs z r (inr h) e = omega (arith, table-high ipv4Layout z lays-ipv4 r)
 
-pub none-misfit : (rs : Records) → length (rs .counts) ≡ 0 → Misfit rs
-none-misfit rs h z r e = omega (arith, table-low z r)
-
-pub many-misfit : (rs : Records) → 3072 < length (rs .counts) → Misfit rs
-many-misfit rs h z r e = omega (arith, table-high ipv4Layout z lays-ipv4 r)
-
-room-misfit : (z : Sizes) (m : Memory) → Ranged z → Misfit (m .list) → roomFits ipv4Layout z m ≡ false
-room-misfit z m r h = sym (refuted (λ p. h z r (rooms-told ipv4Layout z lays-ipv4 r m p .room .counts-fit)))
+room-misfit : (z : Sizes) (m : Memory) → Ranged z → Misfit 3072 (m .list) → roomFits ipv4Layout z m ≡ false
+room-misfit z m r h = sym (refuted (λ p. wrong-number (m .list) z r h (rooms-told ipv4Layout z lays-ipv4 r m p .room .counts-fit)))
 
 -- ---- the calls on a session
 -- sizes first (8), then lengths (16)
 abbrev pub refusal : {A : Type 0} → Session → A → A → A
 refusal s notSession badRoom = cond (not (inRange (s .sizes))) notSession badRoom
 
-misfit-refused : {A : Type 0} (s : Session) (m : Memory) (notSession badRoom passed : A) → Misfit (m .list)
+misfit-refused : {A : Type 0} (s : Session) (m : Memory) (notSession badRoom passed : A) → Misfit 3072 (m .list)
     → tested ipv4Layout s m notSession badRoom passed ≡ refusal s notSession badRoom
 unfolding tested
 misfit-refused s m notSession badRoom passed h = elim (split (inRange (s .sizes))) [
@@ -58,22 +52,22 @@ misfit-refused s m notSession badRoom passed h = elim (split (inRange (s .sizes)
   | inr p ↦ rw p
 ]
 
-pub settle-misfit : (s : Session) (m : Memory) → Misfit (m .list) → settling s m ≡ ran (refusal s settled.NotSession settled.BadRoom) m
+pub settle-misfit : (s : Session) (m : Memory) → Misfit 3072 (m .list) → settling s m ≡ ran (refusal s settled.NotSession settled.BadRoom) m
 unfolding settleOf
 settle-misfit s m h =
     ap (λ (e : Settling). ran (e .answer) (e .room)) (misfit-refused s m _ _ _ h) ∙ elim (split (inRange (s .sizes))) [ inl p ↦ rw p | inr p ↦ rw p ]
 
-pub hand-misfit : (s : Session) (key : Key) (m : Memory) → Misfit (m .list) → handing s key m ≡ ran (refusal s over.NotSession over.BadRoom) m
+pub hand-misfit : (s : Session) (key : Key) (m : Memory) → Misfit 3072 (m .list) → handing s key m ≡ ran (refusal s over.NotSession over.BadRoom) m
 unfolding handOver
 hand-misfit s key m h =
     ap (λ (e : Handing). ran (e .answer) (e .room)) (misfit-refused s m _ _ _ h) ∙ elim (split (inRange (s .sizes))) [ inl p ↦ rw p | inr p ↦ rw p ]
 
-pub report-misfit : (s : Session) (m : Memory) → Misfit (m .list) → reporting s m ≡ ran (refusal s reported.NotSession reported.BadRoom) m
+pub report-misfit : (s : Session) (m : Memory) → Misfit 3072 (m .list) → reporting s m ≡ ran (refusal s reported.NotSession reported.BadRoom) m
 unfolding reportOn
 report-misfit s m h = ap (λ e. ran e m) (misfit-refused s m _ _ _ h)
 
 -- ---- opening
-misfit-read : (image : List ℕ) (slot : ℕ) (m : Memory) (r : Reading) → ((z : Sizes) (salt : ℕ) → r ≡ read.Image z salt → Ranged z) → Misfit (m .list)
+misfit-read : (image : List ℕ) (slot : ℕ) (m : Memory) (r : Reading) → ((z : Sizes) (salt : ℕ) → r ≡ read.Image z salt → Ranged z) → Misfit 3072 (m .list)
     → opens.openRead ipv4Layout slot image m r ≡ opens.opening (opens.refused r) m
 unfolding opens.openRead
 misfit-read image slot m (read.Image z salt) q h = rw (room-misfit z m (q z salt refl) h)
@@ -83,7 +77,7 @@ misfit-read image slot m (read.Form n) q h = refl
 misfit-read image slot m (read.Mixed n) q h = refl
 misfit-read image slot m read.Stale q h = refl
 
-pub open-misfit : (image : List ℕ) (slot : ℕ) (m : Memory) → Misfit (m .list)
+pub open-misfit : (image : List ℕ) (slot : ℕ) (m : Memory) → Misfit 3072 (m .list)
     → opening image slot m ≡ ran (opens.refused (readOf ipv4Layout image slot)) m
 unfolding opens.openOf
 open-misfit image slot m h =

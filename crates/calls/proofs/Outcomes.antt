@@ -3,6 +3,7 @@ use mathlib.Core.Path.{_≡_, refl, sym, ap, _∙_}
 use mathlib.Core.List.{List}
 use Prim.Native.Nat.{ℕ}
 use denote.Ref.{now}
+use Rattle.laws.specs.Outcomes.{Determined}
 use Rattle.laws.proofs.Outcomes.{both}
 use Rattle.peeling.specs.Table.{tab}
 use Rattle.opening.specs.declared.Opened.{Opened}
@@ -11,10 +12,15 @@ use Rattle.session.specs.declared.Settled.{Settled}
 use Rattle.records.specs.declared.Record.{Record}
 use Rattle.records.specs.Outcomes.{Determines}
 use Rattle.calls.specs.Calls.{Lent, lent, Called, called, settleRecords, handRecords, openRecords, reportRecords}
+use Rattle.calls.proofs.taken_of.Kinds as taken-of-kinds
+use Rattle.calls.proofs.taken_of.Reads as taken-of
 use Rattle.calls.proofs.report as report
 use Rattle.calls.proofs.settle as settle
 use Rattle.calls.proofs.hand_over as hand-over
 use Rattle.calls.proofs.open as open-call
+
+pub taken-of-determined : Determined _ taken-of-kinds.ps taken-of-kinds.r taken-of.Asked taken-of.Learnt
+taken-of-determined κs a p z z′ ws ws′ e e′ = (e ∙ sym e′, refl)
 
 pub report-determines : Determines report.ended (λ M 𝓤 H. report.clauses 𝓤 H)
 report-determines = record {
@@ -26,10 +32,10 @@ report-determines = record {
 }
 
 -- what is left behind the slices that settling and opening write
-abbrev Written : Type 0
+abbrev pub Written : Type 0
 Written = List ℕ × (List ℕ × (List ℕ × (List ℕ × (List ℕ × (List ℕ × (List Record × Unit {0}))))))
 
-abbrev written : Lent → Written
+abbrev pub written : Lent → Written
 written m = let t = m .table in (t .xors, (t .flows, (m .packets, (t .unknowns, (t .positions, (t .marks, (m .list, tt)))))))
 
 pub settle-determines : Determines settle.ended (λ M 𝓤 H. settle.clauses 𝓤 H)

@@ -285,7 +285,7 @@ module _ {M : Type 1} (𝓤 : URA M) (H : Heap 𝓤) (A : Atoms 𝓤) (mem : Mem
     )
 
     enters : Is usize p-n ((vint w64 p-n) ∷ []) → Is M-Session.the-row p-s ((L-Session.lowered p-s) ∷ []) → Is M-Key.the-row p-key ((L-Key.lowered
-        p-key) ∷ []) → ((p-n ≤ 3072) × Arrays (records p-keys p-counts p-flags)) → (k : the-loans .Key) → ent 𝓤 (mean 𝓤 H A (the-loans .Lent k)) (Ct
+        p-key) ∷ []) → ((p-n ≤ 3072) × Arrays 3072 (records p-keys p-counts p-flags)) → (k : the-loans .Key) → ent 𝓤 (mean 𝓤 H A (the-loans .Lent k)) (Ct
         .pre (bind k))
     enters is-p-n is-p-s is-p-key req k =
         qed W (((‵ (flft (L-p-filter .life (k .0)) (L-p-filter .share (k .0))) ⊛ ‵ (ShrOwn u8 b-p-filter o-p-filter n-p-filter p-filter (L-p-filter
@@ -637,7 +637,7 @@ module _ {M : Type 1} (𝓤 : URA M) (H : Heap 𝓤) (A : Atoms 𝓤) (mem : Mem
 
     pub call : length p-xors ≡ n-p-xors → length p-flows ≡ n-p-flows → length p-unknowns ≡ n-p-unknowns → length p-positions ≡ n-p-positions → length
         p-marks ≡ n-p-marks → length p-keys ≡ n-p-keys → length p-counts ≡ n-p-counts → length p-flags ≡ n-p-flags → Is usize p-n ((vint w64 p-n) ∷
-        []) → Is M-Session.the-row p-s ((L-Session.lowered p-s) ∷ []) → Is M-Key.the-row p-key ((L-Key.lowered p-key) ∷ []) → ((p-n ≤ 3072) × Arrays
+        []) → Is M-Session.the-row p-s ((L-Session.lowered p-s) ∷ []) → Is M-Key.the-row p-key ((L-Key.lowered p-key) ∷ []) → ((p-n ≤ 3072) × Arrays 3072
         (records p-keys p-counts p-flags)) → (f : Fun 𝓤) → FmF 𝓤 f → Triple 𝓤 f Ct → ent 𝓤 (mean 𝓤 H A (the-loans .Before)) (H .⇛ (f (vs p-n p-s p-key
         b-p-filter o-p-filter n-p-filter p-filter b-p-xors o-p-xors n-p-xors p-xors b-p-flows o-p-flows n-p-flows p-flows b-p-packets o-p-packets
         n-p-packets p-packets b-p-unknowns o-p-unknowns n-p-unknowns p-unknowns b-p-positions o-p-positions n-p-positions p-positions b-p-marks

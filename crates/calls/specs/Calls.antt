@@ -84,15 +84,15 @@ abbrev pub reportRecords : Session → Lent → Reported
 reportRecords s m = reportOn ipv4Layout s (asNumbers m)
 
 -- ---- the way there
--- the number arrays of a call: 2 N is at most 3,072, and a key has 13 bytes
-pub record Arrays (rs : Records) : Type 0 where
-  pub keys-fit : length (rs .keys) ≡ 39936
-  pub counts-fit : length (rs .counts) ≡ 3072
-  pub flags-fit : length (rs .flags) ≡ 3072
+-- the number arrays of a call for at most so many records; 2 N is at most 3,072, and a key has 13 bytes
+pub record Arrays (most : ℕ) (rs : Records) : Type 0 where
+  pub keys-fit : length (rs .keys) ≡ most * 13
+  pub counts-fit : length (rs .counts) ≡ most
+  pub flags-fit : length (rs .flags) ≡ most
 
 -- how many records of n are taken apart: all, or none where no sizes ask for so many
-unfoldable pub taken : ℕ → ℕ
-taken n = cond (leb n 3072) n 0
+unfoldable pub taken : ℕ → ℕ → ℕ
+taken most n = cond (leb n most) n 0
 
 -- the first n records of the arrays, and the arrays with others written over these
 unfoldable pub first : ℕ → Records → Records

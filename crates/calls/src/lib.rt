@@ -17,11 +17,12 @@ use session::HandOver;
 use session::Reported;
 use session::Settled;
 
-// How many records of a list are taken apart. A list that is longer than any sizes ask for is passed on as an empty one, which is as wrong.
-fn taken_of(n: usize) -> usize
-    ensures { λ r. ⌜ r ≡ taken n ⌝ }
+// How many of n records are taken apart into arrays for at most so many. A list that is longer than any sizes ask for is passed on as an empty
+// one, which is as wrong.
+pub fn taken_of(most: usize, n: usize) -> usize
+    ensures { λ r. ⌜ r ≡ taken most n ⌝ }
 {
-    if n <= 3072 {
+    if n <= most {
         return n;
     }
     0
@@ -42,7 +43,7 @@ fn report_first(
     counts: &[u32],
     flags: &[u8],
 ) -> Reported
-    requires { ⌜ (n ≤ 3072) × Arrays (records (now keys) (now counts) (now flags)) ⌝ }
+    requires { ⌜ (n ≤ 3072) × Arrays 3072 (records (now keys) (now counts) (now flags)) ⌝ }
     ensures { λ r. ⌜ r ≡ overFirst (reporting s) n (memory (now (filter .entry))
         (tab (now (xors .entry)) (now (flows .entry)) (now (unknowns .entry)) (now (positions .entry)) (now (marks .entry)))
         (now (packets .entry)) (records (now (keys .entry)) (now (counts .entry)) (now (flags .entry)))) .answer ⌝ }
@@ -83,7 +84,7 @@ pub fn report(
     let mut counts = [0u32; 3072];
     let mut flags = [0u8; 3072];
     let n = records::length_of(list);
-    let m = taken_of(n);
+    let m = taken_of(3072, n);
     records::take_apart(list, m, &mut keys, &mut counts, &mut flags);
     report_first(
         m,
@@ -116,7 +117,7 @@ fn settle_first(
     counts: &mut [u32],
     flags: &mut [u8],
 ) -> Settled
-    requires { ⌜ (n ≤ 3072) × Arrays (records (now keys) (now counts) (now flags)) ⌝ }
+    requires { ⌜ (n ≤ 3072) × Arrays 3072 (records (now keys) (now counts) (now flags)) ⌝ }
     ensures { λ r. ⌜ ran r (memory (now (filter .entry))
         (tab (now (xors .exit)) (now (flows .exit)) (now (unknowns .exit)) (now (positions .exit)) (now (marks .exit)))
         (now (packets .exit)) (records (now (keys .exit)) (now (counts .exit)) (now (flags .exit))))
@@ -163,7 +164,7 @@ pub fn settle(
     let mut counts = [0u32; 3072];
     let mut flags = [0u8; 3072];
     let n = records::length_of(list);
-    let m = taken_of(n);
+    let m = taken_of(3072, n);
     records::take_apart(list, m, &mut keys, &mut counts, &mut flags);
     let r = settle_first(
         m,
@@ -199,7 +200,7 @@ fn hand_over_first(
     counts: &mut [u32],
     flags: &mut [u8],
 ) -> HandOver
-    requires { ⌜ (n ≤ 3072) × Arrays (records (now keys) (now counts) (now flags)) ⌝ }
+    requires { ⌜ (n ≤ 3072) × Arrays 3072 (records (now keys) (now counts) (now flags)) ⌝ }
     ensures { λ r. ⌜ ran r (memory (now (filter .entry))
         (tab (now (xors .exit)) (now (flows .exit)) (now (unknowns .exit)) (now (positions .exit)) (now (marks .exit)))
         (now (packets .entry)) (records (now (keys .exit)) (now (counts .exit)) (now (flags .exit))))
@@ -248,7 +249,7 @@ pub fn hand_over(
     let mut counts = [0u32; 3072];
     let mut flags = [0u8; 3072];
     let n = records::length_of(list);
-    let m = taken_of(n);
+    let m = taken_of(3072, n);
     records::take_apart(list, m, &mut keys, &mut counts, &mut flags);
     let r = hand_over_first(
         m,
@@ -285,7 +286,7 @@ fn open_first(
     counts: &mut [u32],
     flags: &mut [u8],
 ) -> Opened
-    requires { ⌜ (n ≤ 3072) × Arrays (records (now keys) (now counts) (now flags)) ⌝ }
+    requires { ⌜ (n ≤ 3072) × Arrays 3072 (records (now keys) (now counts) (now flags)) ⌝ }
     ensures { λ r. ⌜ ran r (memory (now (filter .exit))
         (tab (now (xors .exit)) (now (flows .exit)) (now (unknowns .exit)) (now (positions .exit)) (now (marks .exit)))
         (now (packets .exit)) (records (now (keys .exit)) (now (counts .exit)) (now (flags .exit))))
@@ -334,7 +335,7 @@ pub fn open(
     let mut counts = [0u32; 3072];
     let mut flags = [0u8; 3072];
     let n = records::length_of(list);
-    let m = taken_of(n);
+    let m = taken_of(3072, n);
     records::take_apart(list, m, &mut keys, &mut counts, &mut flags);
     let r = open_first(
         m,

@@ -1,4 +1,4 @@
--- One step on the lists of a session that passes the test is the theory's step on what is seen of them, and leaves lists that pass; for any bitmap.
+-- One step on the lists of a session that passes the test is the theory's step on what is seen of them, and leaves lists that pass; for any index.
 use mathlib.Core.Path.{_≡_, refl, sym, ap, ap₂, _∙_}
 use mathlib.Core.Bool.{Bool, true, false, not, cond}
 use mathlib.Core.List.{List}

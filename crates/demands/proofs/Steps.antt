@@ -20,7 +20,7 @@ use Rattle.handing.specs.declared.Handed.{Handed}
 use Rattle.handing.specs.declared.Handed.the-variants as handed
 use Rattle.handing.specs.Hand as handing
 use Rattle.handing.specs.Hand.{takenBy}
-use Rattle.session.specs.Calls.{bitsOf, handAnswer, handOver, handOverNumber, settleOf, settleNumber, settleAnswer}
+use Rattle.session.specs.Calls.{indexOf, handAnswer, handOver, handOverNumber, settleOf, settleNumber, settleAnswer}
 use Rattle.theory.specs.Flow.{Key}
 use Rattle.theory.specs.Settle.{stopNumber}
 use Rattle.theory.specs.HandOver as theory
@@ -65,7 +65,7 @@ module _ (l : Layout) (v : Live) (p : Passing l v) where
 
   -- ---- settling
   abbrev settled : settling.Settled
-  settled = settling.settleOf l z (s .salt) (s .listed) (m .table) (m .packets) (m .list) (bitsOf l s m)
+  settled = settling.settleOf l z (s .salt) (s .listed) (m .table) (m .packets) (m .list) (indexOf l s m)
 
   listed-after : (a : Stop) → afterSettle s (settleAnswer a) ≡ withListed s (listedAt a)
   listed-after (stop.Done n) = refl
@@ -80,7 +80,7 @@ module _ (l : Layout) (v : Live) (p : Passing l v) where
   -- Theorem: settling is the theory's, which looks through all cells at each step
   pub settle-follows : Follows l v (theory.settleAt (switchAt l v) (viewed l v) .state) (callOn l theory.settling v)
   settle-follows = subst (Follows l v (theory.settleAt (switchAt l v) (viewed l v) .state)) (sym settle-live)
-      (followed (settle-shows l z (s .salt) (m .filter) (s .listed) (m .table) (m .packets) (m .list) (p .lent) (p .passes) (bitsOf l s m)))
+      (followed (settle-shows l z (s .salt) (m .filter) (s .listed) (m .table) (m .packets) (m .list) (p .lent) (p .passes) (indexOf l s m)))
 
   stop-number : (a : Stop) → settleNumber (settleAnswer a) ≡ stopNumber (stopOf a)
   stop-number (stop.Done n) = refl
@@ -89,17 +89,17 @@ module _ (l : Layout) (v : Live) (p : Passing l v) where
 
   pub settle-number : settleNumber (settleOf l s m .answer) ≡ stopNumber (theory.settleAt (switchAt l v) (viewed l v) .stop)
   settle-number = rw (settle-passes l s m tests-pass) (stop-number (settled .answer)
-      ∙ ap stopNumber (settle-stops l z (s .salt) (m .filter) (s .listed) (m .table) (m .packets) (m .list) (p .lent) (p .passes) (bitsOf l s m)))
+      ∙ ap stopNumber (settle-stops l z (s .salt) (m .filter) (s .listed) (m .table) (m .packets) (m .list) (p .lent) (p .passes) (indexOf l s m)))
 
   -- ---- hand-over
   module _ (x : Key) (fits : length x ≡ l .key) where
     abbrev handed-on : handing.Handing
-    handed-on = handing.handOf l z (s .salt) (s .listed) x (m .filter) (m .table) (m .list) (bitsOf l s m)
+    handed-on = handing.handOf l z (s .salt) (s .listed) x (m .filter) (m .table) (m .list) (indexOf l s m)
 
     -- 01's number is the theory's
     pub hand-over-number : handOverNumber (handOver l s x m .answer) ≡ theory.handAnswer (switchAt l v) x (viewed l v)
     hand-over-number = rw (hand-over-passes l s m tests-pass x) (same-number (s .listed) (handed-on .answer)
-        ∙ hand-number l z (s .salt) (m .filter) (s .listed) (m .table) (m .packets) (m .list) (p .lent) (p .passes) (bitsOf l s m) x fits)
+        ∙ hand-number l z (s .salt) (m .filter) (s .listed) (m .table) (m .packets) (m .list) (p .lent) (p .passes) (indexOf l s m) x fits)
 
     same-numbers : {n : ℕ} → n ≡ s .listed → s ≡ withListed s n
     same-numbers e = ap (withListed s) (sym e)
@@ -119,7 +119,7 @@ module _ (l : Layout) (v : Live) (p : Passing l v) where
     -- Theorem: a hand-over is the theory's
     pub hand-follows : Follows l v (theory.handOver (switchAt l v) x (viewed l v)) (callOn l (theory.hand x) v)
     hand-follows = subst (Follows l v (theory.handOver (switchAt l v) x (viewed l v))) (sym hand-live)
-        (followed (hand-shows l z (s .salt) (m .filter) (s .listed) (m .table) (m .packets) (m .list) (p .lent) (p .passes) (bitsOf l s m) x fits))
+        (followed (hand-shows l z (s .salt) (m .filter) (s .listed) (m .table) (m .packets) (m .list) (p .lent) (p .passes) (indexOf l s m) x fits))
 
 -- ---- calls in order
 follows-one : (l : Layout) (a : theory.Call) (later : List theory.Call) (v u t : Live) → Follows l v (theory.call (switchAt l v) a (viewed l v)) u

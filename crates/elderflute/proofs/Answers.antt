@@ -1,5 +1,5 @@
 -- What each function puts together from the call below it.
-use mathlib.Core.Path.{_≡_, sym, ap, _∙_}
+use mathlib.Core.Path.{_≡_, sym, ap, ap₂, _∙_}
 use mathlib.Core.List.{List}
 use Prim.Native.Nat.{ℕ}
 use lib.ListN.{length}
@@ -25,7 +25,11 @@ use Rattle.session.specs.declared.Reported.{Reported}
 use Rattle.session.specs.Calls as calls
 use Rattle.session.specs.Calls.{handOver, settleOf, reportOn}
 use Rattle.printing.specs.Print.{mostWritten, printed}
+use Rattle.exchange.specs.declared.Exchanged.{Exchanged}
+use Rattle.exchange.specs.Exchange as exchange
+use Rattle.exchange.specs.Exchange.{exchangeOf}
 use Rattle.elderflute.specs.Numbers.{sessionOf}
+use Rattle.elderflute.specs.Exchanges.{ExchangeLeft, exchangeLeaves, exchanging, exchangeCall}
 use Rattle.elderflute.specs.Flowset.{keyLeaves, keyCall}
 use Rattle.elderflute.specs.Images.{numbersRead, readLeft, readLeaves, ReadSized}
 use Rattle.elderflute.specs.Images.{numbersOpened, listedOpened, OpenLeft, openLeft, openLeaves, opening, openCall, OpenSized}
@@ -96,6 +100,15 @@ module _ (numbers : List ℕ) (listed : ℕ) (m : Memory) {s : Session} (told : 
       → left ≡ reportCall numbers listed figures m
   unfolding reportCall
   report-call figures e f = f ∙ ap (λ x. reportLeaves x figures) (e ∙ ap (λ x. reportOn ipv4Layout x m) told)
+
+-- ---- the exchange
+pub exchange-call : (a : List ℕ) (n : ℕ) (b : List ℕ) (k : ℕ) (told : List ℕ) (m : Memory) {s t : Session} {x : Exchanged} {m′ : Memory} {left : ExchangeLeft}
+    → s ≡ sessionOf a n → t ≡ sessionOf b k → exchange.exchanging x m′ ≡ exchangeOf ipv4Layout s t m → left ≡ exchangeLeaves x n k told
+    → exchanging left m′ ≡ exchangeCall a n b k told m
+unfolding exchangeCall
+exchange-call a n b k told m {m′ = m′} i j e f =
+    ap (λ (x : ExchangeLeft). exchanging x m′) f
+    ∙ ap (λ (x : exchange.Exchanging). exchanging (exchangeLeaves (x .answer) n k told) (x .room)) (e ∙ ap₂ (λ s t. exchangeOf ipv4Layout s t m) i j)
 
 -- ---- printing
 module _ (input lines : List ℕ) (written : ℕ) where

@@ -23,6 +23,9 @@ use Rattle.elderflute.proofs.elderflute_open.Reads as open-reads
 use Rattle.elderflute.proofs.elderflute_hand_over.Kinds as hand-over-kinds
 use Rattle.elderflute.proofs.elderflute_hand_over.Reads as hand-over
 use Rattle.elderflute.proofs.elderflute_settle.Kinds as settle-kinds
+use Rattle.elderflute.proofs.elderflute_exchange.Kinds as exchange-kinds
+use Rattle.elderflute.proofs.elderflute_exchange.Reads as exchange
+use Rattle.elderflute.specs.Exchanges.{Exchanging}
 use Rattle.elderflute.proofs.elderflute_settle.Reads as settle
 use Rattle.elderflute.proofs.elderflute_report.Kinds as report-kinds
 use Rattle.elderflute.proofs.elderflute_report.Reads as report
@@ -100,4 +103,14 @@ pub print-determined : Determined _ print-kinds.ps print-kinds.r print.Asked pri
 print-determined κs a p z z′ ws ws′ e e′ = let f = e ∙ sym e′ in (
   ap (λ (x : Printing). x .number) f,
   both refl (ap (λ (x : Printing). (x .lines, (x .written, tt))) f),
+)
+
+pub exchange-determined : Determined _ exchange-kinds.ps exchange-kinds.r exchange.Asked exchange.Learnt
+exchange-determined κs a p z z′ ws ws′ e e′ = let f = e ∙ sym e′ in (
+  ap (λ (x : Exchanging). x .left .number) f,
+  both refl
+      (both (ap (λ (x : Exchanging). x .left .listed-a) f)
+      (both refl
+      (both (ap (λ (x : Exchanging). x .left .listed-b) f)
+      (both (ap (λ (x : Exchanging). x .left .told) f) (both refl (ap (λ (x : Exchanging). roomLeft (x .room)) f)))))),
 )

@@ -3,3 +3,4 @@ pub mod Numbers
 pub mod Flowset
 pub mod Images
 pub mod Sessions
+pub mod Exchanges

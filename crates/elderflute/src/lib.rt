@@ -14,9 +14,11 @@ ghost use Rattle.elderflute.specs.Numbers.{sizesOf, sessionOf, numbersOf
 ghost use Rattle.elderflute.specs.Flowset.{keying, keyCall, working, startCall, packetCall, sealing, sealCall};
 ghost use Rattle.elderflute.specs.Images.{ReadSized, OpenSized, readLeft, readLeaves, readCall, openLeft, openLeaves, opening, openCall};
 ghost use Rattle.elderflute.specs.Sessions.{handLeft, handLeaves, handing, handOverCall, settleLeft, settleLeaves, settling, settleCall};
+ghost use Rattle.elderflute.specs.Exchanges.{exchangeLeft, exchangeLeaves, exchanging, exchangeCall};
 ghost use Rattle.elderflute.specs.Sessions.{reporting, reportLeaves, reportCall, printing, printCall};
 use encoder::Started;
 use encoder::Taken;
+use exchange::Exchanged;
 use image::Reading;
 use image::Sealed;
 use layout::Sizes;
@@ -417,6 +419,114 @@ pub extern "C" fn elderflute_settle(
         flags,
     );
     put_settled(a, listed, cell)
+}
+
+// Writes what an exchange answers: the answers 12, the switch that stopped it (1 A, 2 B, 0 none) and the cell where it did.
+fn put_exchanged(x: Exchanged, listed: &mut usize, beside: &mut usize, told: &mut [usize; 3]) -> u32
+    ensures { λ r. ⌜ exchangeLeft r (now (listed .exit)) (now (beside .exit)) (now (told .exit))
+        ≡ exchangeLeaves x (now (listed .entry)) (now (beside .entry)) (now (told .entry)) ⌝ }
+{
+    match x {
+        Exchanged::Done { a, b, twelves } => {
+            *listed = a;
+            *beside = b;
+            *told = [twelves, 0, 0];
+            0
+        }
+        Exchanged::FullA {
+            cell,
+            a,
+            b,
+            twelves,
+        } => {
+            *listed = a;
+            *beside = b;
+            *told = [twelves, 1, cell];
+            13
+        }
+        Exchanged::DamagedA {
+            cell,
+            a,
+            b,
+            twelves,
+        } => {
+            *listed = a;
+            *beside = b;
+            *told = [twelves, 1, cell];
+            14
+        }
+        Exchanged::FullB {
+            cell,
+            a,
+            b,
+            twelves,
+        } => {
+            *listed = a;
+            *beside = b;
+            *told = [twelves, 2, cell];
+            13
+        }
+        Exchanged::DamagedB {
+            cell,
+            a,
+            b,
+            twelves,
+        } => {
+            *listed = a;
+            *beside = b;
+            *told = [twelves, 2, cell];
+            14
+        }
+        Exchanged::NotSession => 8,
+        Exchanged::BadRoom => 16,
+        Exchanged::OtherSlot => 15,
+    }
+}
+
+// Exchanges the lists of two sessions, whose room is lent joined: of each kind A's part, then B's.
+#[no_mangle]
+pub extern "C" fn elderflute_exchange(
+    first: &[u32; 6],
+    listed: &mut usize,
+    second: &[u32; 6],
+    beside: &mut usize,
+    told: &mut [usize; 3],
+    filter: &[u8],
+    xors: &mut [u8],
+    flows: &mut [u16],
+    packets: &mut [u32],
+    unknowns: &mut [u16],
+    positions: &mut [u16],
+    marks: &mut [u64],
+    keys: &mut [u8],
+    counts: &mut [u32],
+    flags: &mut [u8],
+) -> u32
+    ensures { λ r. ⌜ exchanging (exchangeLeft r (now (listed .exit)) (now (beside .exit)) (now (told .exit))) (memory (now (filter .entry))
+        (tab (now (xors .exit)) (now (flows .exit)) (now (unknowns .exit)) (now (positions .exit)) (now (marks .exit)))
+        (now (packets .exit)) (records (now (keys .exit)) (now (counts .exit)) (now (flags .exit))))
+        ≡ exchangeCall (now (first .entry)) (now (listed .entry)) (now (second .entry)) (now (beside .entry)) (now (told .entry))
+        (memory (now (filter .entry))
+        (tab (now (xors .entry)) (now (flows .entry)) (now (unknowns .entry)) (now (positions .entry)) (now (marks .entry)))
+        (now (packets .entry)) (records (now (keys .entry)) (now (counts .entry)) (now (flags .entry)))) ⌝ }
+{
+    let s = session_of(first, *listed);
+    let t = session_of(second, *beside);
+    let x = exchange::exchange(
+        s,
+        t,
+        filter,
+        xors,
+        flows,
+        packets,
+        unknowns,
+        positions,
+        marks,
+        keys,
+        counts,
+        flags,
+    );
+    put_exchanged(x, listed, beside, told)
 }
 
 fn state_number(s: State) -> usize

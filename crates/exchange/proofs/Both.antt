@@ -14,6 +14,7 @@ use Rattle.settling.proofs.Laws.{settle-lasts}
 use Rattle.parts.specs.declared.Place.{Place}
 use Rattle.parts.specs.Sides.{Switch, Side, side, Stands, Rested, settleSide}
 use Rattle.parts.specs.Areas.{origin, placeAfter, between, laid, tableAt, listAt, withTable, withList, Areas, areas, partAt, withPart, Rest, rest, settlePart}
+use Rattle.parts.proofs.Areas.{Fills}
 use Rattle.exchange.specs.Exchange.{joinedTable, joinedList, joinedSides}
 
 -- ---- two lists joined
@@ -43,16 +44,8 @@ module _ (u v new : List ℕ) (i : ℕ) (first : length u ≡ i - 0) where
 -- ---- sides
 -- as long as the part from i to j
 pub record Long (i j : Place) (s : Side) : Type 0 where
-  pub xors-long : length (s .table .xors) ≡ j .xors - i .xors
-  pub flows-long : length (s .table .flows) ≡ j .cells - i .cells
-  pub unknowns-long : length (s .table .unknowns) ≡ j .cells - i .cells
-  pub positions-long : length (s .table .positions) ≡ j .cells - i .cells
-  pub marks-long : length (s .table .marks) ≡ j .words - i .words
-  pub packets-long : length (s .packets) ≡ j .cells - i .cells
-  pub keys-long : length (s .list .keys) ≡ j .keys - i .keys
-  pub counts-long : length (s .list .counts) ≡ j .records - i .records
-  pub flags-long : length (s .list .flags) ≡ j .records - i .records
-  pub seen-long : length (s .seen) ≡ j .seen - i .seen
+  pub fills : Fills i j (s .table) (s .list) (s .seen)
+  pub packets-fill : length (s .packets) ≡ j .cells - i .cells
 
 pub stands-long : (l : Layout) (w : Switch) (i j : Place) (s : Side) → j ≡ placeAfter l (w .sizes) i → Stands l w s → Long i j s
 unfolding placeAfter
@@ -60,16 +53,18 @@ stands-long l w i j s e h =
     let t = h .fits .table in
     let r = h .fits .room in
     record {
-      xors-long = t .xors-fit ∙ omega (arith, ap (λ (p : Place). p .xors) e);
-      flows-long = t .flows-fit ∙ omega (arith, ap (λ (p : Place). p .cells) e);
-      unknowns-long = t .unknowns-fit ∙ omega (arith, ap (λ (p : Place). p .cells) e);
-      positions-long = t .positions-fit ∙ omega (arith, ap (λ (p : Place). p .cells) e);
-      marks-long = t .marks-fit ∙ omega (arith, ap (λ (p : Place). p .words) e);
-      packets-long = h .packets-fit ∙ omega (arith, ap (λ (p : Place). p .cells) e);
-      keys-long = r .keys-fit ∙ omega (arith, ap (λ (p : Place). p .keys) e);
-      counts-long = r .counts-fit ∙ omega (arith, ap (λ (p : Place). p .records) e);
-      flags-long = r .flags-fit ∙ omega (arith, ap (λ (p : Place). p .records) e);
-      seen-long = h .fits .covers .words ∙ omega (arith, ap (λ (p : Place). p .seen) e);
+      fills = record {
+        xors-fill = t .xors-fit ∙ omega (arith, ap (λ (p : Place). p .xors) e);
+        flows-fill = t .flows-fit ∙ omega (arith, ap (λ (p : Place). p .cells) e);
+        unknowns-fill = t .unknowns-fit ∙ omega (arith, ap (λ (p : Place). p .cells) e);
+        positions-fill = t .positions-fit ∙ omega (arith, ap (λ (p : Place). p .cells) e);
+        marks-fill = t .marks-fit ∙ omega (arith, ap (λ (p : Place). p .words) e);
+        keys-fill = r .keys-fit ∙ omega (arith, ap (λ (p : Place). p .keys) e);
+        counts-fill = r .counts-fit ∙ omega (arith, ap (λ (p : Place). p .records) e);
+        flags-fill = r .flags-fit ∙ omega (arith, ap (λ (p : Place). p .records) e);
+        seen-fill = h .fits .covers .sized ∙ omega (arith, ap (λ (p : Place). p .seen) e);
+      };
+      packets-fill = h .packets-fit ∙ omega (arith, ap (λ (p : Place). p .cells) e);
     }
 
 module _ (p : Place) (a b new : Side) (f : Long origin p a) where
@@ -78,38 +73,38 @@ module _ (p : Place) (a b new : Side) (f : Long origin p a) where
   part-a = λ k. record {
     listed = a .listed;
     table = record {
-      xors = first-between (a .table .xors) (b .table .xors) [] (p .xors) (f .xors-long) k;
-      flows = first-between (a .table .flows) (b .table .flows) [] (p .cells) (f .flows-long) k;
-      unknowns = first-between (a .table .unknowns) (b .table .unknowns) [] (p .cells) (f .unknowns-long) k;
-      positions = first-between (a .table .positions) (b .table .positions) [] (p .cells) (f .positions-long) k;
-      marks = first-between (a .table .marks) (b .table .marks) [] (p .words) (f .marks-long) k;
+      xors = first-between (a .table .xors) (b .table .xors) [] (p .xors) (f .fills .xors-fill) k;
+      flows = first-between (a .table .flows) (b .table .flows) [] (p .cells) (f .fills .flows-fill) k;
+      unknowns = first-between (a .table .unknowns) (b .table .unknowns) [] (p .cells) (f .fills .unknowns-fill) k;
+      positions = first-between (a .table .positions) (b .table .positions) [] (p .cells) (f .fills .positions-fill) k;
+      marks = first-between (a .table .marks) (b .table .marks) [] (p .words) (f .fills .marks-fill) k;
     };
-    packets = first-between (a .packets) (b .packets) [] (p .cells) (f .packets-long) k;
+    packets = first-between (a .packets) (b .packets) [] (p .cells) (f .packets-fill) k;
     list = record {
-      keys = first-between (a .list .keys) (b .list .keys) [] (p .keys) (f .keys-long) k;
-      counts = first-between (a .list .counts) (b .list .counts) [] (p .records) (f .counts-long) k;
-      flags = first-between (a .list .flags) (b .list .flags) [] (p .records) (f .flags-long) k;
+      keys = first-between (a .list .keys) (b .list .keys) [] (p .keys) (f .fills .keys-fill) k;
+      counts = first-between (a .list .counts) (b .list .counts) [] (p .records) (f .fills .counts-fill) k;
+      flags = first-between (a .list .flags) (b .list .flags) [] (p .records) (f .fills .flags-fill) k;
     };
-    seen = first-between (a .seen) (b .seen) [] (p .seen) (f .seen-long) k;
+    seen = first-between (a .seen) (b .seen) [] (p .seen) (f .fills .seen-fill) k;
   }
 
   with-a : withPart origin p (joinedSides a b) new ≡ joinedSides new b
   unfolding withTable withList joinedTable joinedList
   with-a = λ k. record {
     table = record {
-      xors = first-laid (a .table .xors) (b .table .xors) (new .table .xors) (p .xors) (f .xors-long) k;
-      flows = first-laid (a .table .flows) (b .table .flows) (new .table .flows) (p .cells) (f .flows-long) k;
-      unknowns = first-laid (a .table .unknowns) (b .table .unknowns) (new .table .unknowns) (p .cells) (f .unknowns-long) k;
-      positions = first-laid (a .table .positions) (b .table .positions) (new .table .positions) (p .cells) (f .positions-long) k;
-      marks = first-laid (a .table .marks) (b .table .marks) (new .table .marks) (p .words) (f .marks-long) k;
+      xors = first-laid (a .table .xors) (b .table .xors) (new .table .xors) (p .xors) (f .fills .xors-fill) k;
+      flows = first-laid (a .table .flows) (b .table .flows) (new .table .flows) (p .cells) (f .fills .flows-fill) k;
+      unknowns = first-laid (a .table .unknowns) (b .table .unknowns) (new .table .unknowns) (p .cells) (f .fills .unknowns-fill) k;
+      positions = first-laid (a .table .positions) (b .table .positions) (new .table .positions) (p .cells) (f .fills .positions-fill) k;
+      marks = first-laid (a .table .marks) (b .table .marks) (new .table .marks) (p .words) (f .fills .marks-fill) k;
     };
-    packets = first-laid (a .packets) (b .packets) (new .packets) (p .cells) (f .packets-long) k;
+    packets = first-laid (a .packets) (b .packets) (new .packets) (p .cells) (f .packets-fill) k;
     list = record {
-      keys = first-laid (a .list .keys) (b .list .keys) (new .list .keys) (p .keys) (f .keys-long) k;
-      counts = first-laid (a .list .counts) (b .list .counts) (new .list .counts) (p .records) (f .counts-long) k;
-      flags = first-laid (a .list .flags) (b .list .flags) (new .list .flags) (p .records) (f .flags-long) k;
+      keys = first-laid (a .list .keys) (b .list .keys) (new .list .keys) (p .keys) (f .fills .keys-fill) k;
+      counts = first-laid (a .list .counts) (b .list .counts) (new .list .counts) (p .records) (f .fills .counts-fill) k;
+      flags = first-laid (a .list .flags) (b .list .flags) (new .list .flags) (p .records) (f .fills .flags-fill) k;
     };
-    seen = first-laid (a .seen) (b .seen) (new .seen) (p .seen) (f .seen-long) k;
+    seen = first-laid (a .seen) (b .seen) (new .seen) (p .seen) (f .fills .seen-fill) k;
   }
 
   module _ (e : Place) (g : Long p e b) where
@@ -118,38 +113,38 @@ module _ (p : Place) (a b new : Side) (f : Long origin p a) where
     part-b = λ k. record {
       listed = b .listed;
       table = record {
-        xors = second-between (a .table .xors) (b .table .xors) [] (p .xors) (f .xors-long) (e .xors) (g .xors-long) k;
-        flows = second-between (a .table .flows) (b .table .flows) [] (p .cells) (f .flows-long) (e .cells) (g .flows-long) k;
-        unknowns = second-between (a .table .unknowns) (b .table .unknowns) [] (p .cells) (f .unknowns-long) (e .cells) (g .unknowns-long) k;
-        positions = second-between (a .table .positions) (b .table .positions) [] (p .cells) (f .positions-long) (e .cells) (g .positions-long) k;
-        marks = second-between (a .table .marks) (b .table .marks) [] (p .words) (f .marks-long) (e .words) (g .marks-long) k;
+        xors = second-between (a .table .xors) (b .table .xors) [] (p .xors) (f .fills .xors-fill) (e .xors) (g .fills .xors-fill) k;
+        flows = second-between (a .table .flows) (b .table .flows) [] (p .cells) (f .fills .flows-fill) (e .cells) (g .fills .flows-fill) k;
+        unknowns = second-between (a .table .unknowns) (b .table .unknowns) [] (p .cells) (f .fills .unknowns-fill) (e .cells) (g .fills .unknowns-fill) k;
+        positions = second-between (a .table .positions) (b .table .positions) [] (p .cells) (f .fills .positions-fill) (e .cells) (g .fills .positions-fill) k;
+        marks = second-between (a .table .marks) (b .table .marks) [] (p .words) (f .fills .marks-fill) (e .words) (g .fills .marks-fill) k;
       };
-      packets = second-between (a .packets) (b .packets) [] (p .cells) (f .packets-long) (e .cells) (g .packets-long) k;
+      packets = second-between (a .packets) (b .packets) [] (p .cells) (f .packets-fill) (e .cells) (g .packets-fill) k;
       list = record {
-        keys = second-between (a .list .keys) (b .list .keys) [] (p .keys) (f .keys-long) (e .keys) (g .keys-long) k;
-        counts = second-between (a .list .counts) (b .list .counts) [] (p .records) (f .counts-long) (e .records) (g .counts-long) k;
-        flags = second-between (a .list .flags) (b .list .flags) [] (p .records) (f .flags-long) (e .records) (g .flags-long) k;
+        keys = second-between (a .list .keys) (b .list .keys) [] (p .keys) (f .fills .keys-fill) (e .keys) (g .fills .keys-fill) k;
+        counts = second-between (a .list .counts) (b .list .counts) [] (p .records) (f .fills .counts-fill) (e .records) (g .fills .counts-fill) k;
+        flags = second-between (a .list .flags) (b .list .flags) [] (p .records) (f .fills .flags-fill) (e .records) (g .fills .flags-fill) k;
       };
-      seen = second-between (a .seen) (b .seen) [] (p .seen) (f .seen-long) (e .seen) (g .seen-long) k;
+      seen = second-between (a .seen) (b .seen) [] (p .seen) (f .fills .seen-fill) (e .seen) (g .fills .seen-fill) k;
     }
 
     with-b : withPart p e (joinedSides a b) new ≡ joinedSides a new
     unfolding withTable withList joinedTable joinedList
     with-b = λ k. record {
       table = record {
-        xors = second-laid (a .table .xors) (b .table .xors) (new .table .xors) (p .xors) (f .xors-long) (e .xors) (g .xors-long) k;
-        flows = second-laid (a .table .flows) (b .table .flows) (new .table .flows) (p .cells) (f .flows-long) (e .cells) (g .flows-long) k;
-        unknowns = second-laid (a .table .unknowns) (b .table .unknowns) (new .table .unknowns) (p .cells) (f .unknowns-long) (e .cells) (g .unknowns-long) k;
-        positions = second-laid (a .table .positions) (b .table .positions) (new .table .positions) (p .cells) (f .positions-long) (e .cells) (g .positions-long) k;
-        marks = second-laid (a .table .marks) (b .table .marks) (new .table .marks) (p .words) (f .marks-long) (e .words) (g .marks-long) k;
+        xors = second-laid (a .table .xors) (b .table .xors) (new .table .xors) (p .xors) (f .fills .xors-fill) (e .xors) (g .fills .xors-fill) k;
+        flows = second-laid (a .table .flows) (b .table .flows) (new .table .flows) (p .cells) (f .fills .flows-fill) (e .cells) (g .fills .flows-fill) k;
+        unknowns = second-laid (a .table .unknowns) (b .table .unknowns) (new .table .unknowns) (p .cells) (f .fills .unknowns-fill) (e .cells) (g .fills .unknowns-fill) k;
+        positions = second-laid (a .table .positions) (b .table .positions) (new .table .positions) (p .cells) (f .fills .positions-fill) (e .cells) (g .fills .positions-fill) k;
+        marks = second-laid (a .table .marks) (b .table .marks) (new .table .marks) (p .words) (f .fills .marks-fill) (e .words) (g .fills .marks-fill) k;
       };
-      packets = second-laid (a .packets) (b .packets) (new .packets) (p .cells) (f .packets-long) (e .cells) (g .packets-long) k;
+      packets = second-laid (a .packets) (b .packets) (new .packets) (p .cells) (f .packets-fill) (e .cells) (g .packets-fill) k;
       list = record {
-        keys = second-laid (a .list .keys) (b .list .keys) (new .list .keys) (p .keys) (f .keys-long) (e .keys) (g .keys-long) k;
-        counts = second-laid (a .list .counts) (b .list .counts) (new .list .counts) (p .records) (f .counts-long) (e .records) (g .counts-long) k;
-        flags = second-laid (a .list .flags) (b .list .flags) (new .list .flags) (p .records) (f .flags-long) (e .records) (g .flags-long) k;
+        keys = second-laid (a .list .keys) (b .list .keys) (new .list .keys) (p .keys) (f .fills .keys-fill) (e .keys) (g .fills .keys-fill) k;
+        counts = second-laid (a .list .counts) (b .list .counts) (new .list .counts) (p .records) (f .fills .counts-fill) (e .records) (g .fills .counts-fill) k;
+        flags = second-laid (a .list .flags) (b .list .flags) (new .list .flags) (p .records) (f .fills .flags-fill) (e .records) (g .fills .flags-fill) k;
       };
-      seen = second-laid (a .seen) (b .seen) (new .seen) (p .seen) (f .seen-long) (e .seen) (g .seen-long) k;
+      seen = second-laid (a .seen) (b .seen) (new .seen) (p .seen) (f .fills .seen-fill) (e .seen) (g .fills .seen-fill) k;
     }
 
 -- settling keeps all in its room

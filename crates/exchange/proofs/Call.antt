@@ -11,9 +11,10 @@ use lib.Seq.{length-take-le, take-all}
 use Rattle.layout.specs.declared.Layout.{Layout}
 use Rattle.layout.specs.declared.Sizes.{Sizes}
 use Rattle.layout.specs.Sizes.{Lays, Ranged, tableCells}
-use Rattle.layout.proofs.Ranges.{ranged}
+use Rattle.layout.proofs.Ranges.{ranged, table-high}
 use Rattle.list.specs.Records.{Records}
 use Rattle.peeling.specs.Table.{Tab}
+use Rattle.index.proofs.Index.{empty-zeros}
 use Rattle.peeling.specs.Seen.{Covers}
 use Rattle.test8.specs.Test8.{overListed, isSession}
 use Rattle.test8.specs.Given.{seenUpto}
@@ -25,7 +26,7 @@ use Rattle.room.specs.Memory.{Memory, memory, Rooms}
 use Rattle.parts.specs.declared.Place.{Place}
 use Rattle.parts.specs.Sides.{Switch, Side, side, Stands}
 use Rattle.parts.specs.Areas.{origin, placeAfter, between, laid, tableAt, listAt, Areas, areas, partAt}
-use Rattle.exchange.specs.Exchange.{Pair, pair, Ended, exchangeSides, switchOf, seenIn, sideOf, roomA, roomB, seam, roomEnd, joinedTable, joinedList, joined, areasFit, Exchanging, exchanging, exchangeTest, afterTest, exchangeOf, answerOf, roomLeft, leaves, pairIn, Left, left, leftBy, Both}
+use Rattle.exchange.specs.Exchange.{Pair, pair, Ended, exchangeSides, switchOf, seenIn, sideOf, roomA, roomB, seam, roomEnd, joinedTable, joinedList, joined, areasFit, Exchanging, exchanging, exchangeTest, afterTest, exchangeOf, answerOf, roomLeft, leaves, pairIn, Left, left, leftBy, Ends, Both}
 use Rattle.exchange.specs.declared.Round.{Round}
 use Rattle.exchange.specs.declared.Exchanged.{Exchanged}
 use Rattle.exchange.specs.declared.Exchanged.the-variants as exchanged
@@ -33,7 +34,6 @@ use Rattle.exchange.specs.declared.Tested.{Tested}
 use Rattle.exchange.specs.declared.Tested.the-variants as tested
 use Rattle.exchange.proofs.Both.{first-laid, second-laid, first-between, second-between}
 use Rattle.exchange.proofs.Rooms.{FullRoom, areas-full, areas-rooms}
-use Rattle.exchange.proofs.Steps.{Ends}
 use Rattle.exchange.proofs.Tests.{testOf, Passing}
 
 -- ---- lengths
@@ -93,30 +93,30 @@ module _ (p : Place) (m : Memory) where
     pub table-b : tableAt p e (m .table) ≡ roomB p m .table
     unfolding tableAt roomB
     table-b = λ k. record {
-      xors = to-end (p .xors) (e .xors) (m .table .xors) (f .xors-full) k;
-      flows = to-end (p .cells) (e .cells) (m .table .flows) (f .flows-full) k;
-      unknowns = to-end (p .cells) (e .cells) (m .table .unknowns) (f .unknowns-full) k;
-      positions = to-end (p .cells) (e .cells) (m .table .positions) (f .positions-full) k;
-      marks = to-end (p .words) (e .words) (m .table .marks) (f .marks-full) k;
+      xors = to-end (p .xors) (e .xors) (m .table .xors) (f .full .xors-full) k;
+      flows = to-end (p .cells) (e .cells) (m .table .flows) (f .full .flows-full) k;
+      unknowns = to-end (p .cells) (e .cells) (m .table .unknowns) (f .full .unknowns-full) k;
+      positions = to-end (p .cells) (e .cells) (m .table .positions) (f .full .positions-full) k;
+      marks = to-end (p .words) (e .words) (m .table .marks) (f .full .marks-full) k;
     }
 
     pub list-b : listAt p e (m .list) ≡ roomB p m .list
     unfolding listAt roomB
     list-b = λ k. record {
-      keys = to-end (p .keys) (e .keys) (m .list .keys) (f .keys-full) k;
-      counts = to-end (p .records) (e .records) (m .list .counts) (f .counts-full) k;
-      flags = to-end (p .records) (e .records) (m .list .flags) (f .flags-full) k;
+      keys = to-end (p .keys) (e .keys) (m .list .keys) (f .full .keys-full) k;
+      counts = to-end (p .records) (e .records) (m .list .counts) (f .full .counts-full) k;
+      flags = to-end (p .records) (e .records) (m .list .flags) (f .full .flags-full) k;
     }
 
     pub packets-in-b : between (p .cells) (e .cells) (m .packets) ≡ roomB p m .packets
     unfolding roomB
-    packets-in-b = to-end (p .cells) (e .cells) (m .packets) (f .packets-full)
+    packets-in-b = to-end (p .cells) (e .cells) (m .packets) (f .full .packets-full)
 
     pub filter-in-b : between (p .filter) (e .filter) (m .filter) ≡ roomB p m .filter
     unfolding roomB
     filter-in-b = to-end (p .filter) (e .filter) (m .filter) (f .filter-full)
 
-    pub ends : (l : Layout) (y z : Sizes) (seen : List ℕ) → Lays l → Ranged y → Ranged z → p ≡ placeAfter l y origin → e ≡ placeAfter l z p → length seen ≡ 512
+    pub ends : (l : Layout) (y z : Sizes) (seen : List ℕ) → Lays l → Ranged y → Ranged z → p ≡ placeAfter l y origin → e ≡ placeAfter l z p → length seen ≡ 22528
         → Ends l y z p e (areas (m .table) (m .packets) (m .list) seen)
     unfolding placeAfter
     ends l y z seen lays ry rz i j n = record {
@@ -125,15 +125,7 @@ module _ (p : Place) (m : Memory) where
       ranged-b = rz;
       seam-is = i;
       end-is = j;
-      xors-full = f .xors-full;
-      flows-full = f .flows-full;
-      unknowns-full = f .unknowns-full;
-      positions-full = f .positions-full;
-      marks-full = f .marks-full;
-      packets-full = f .packets-full;
-      keys-full = f .keys-full;
-      counts-full = f .counts-full;
-      flags-full = f .flags-full;
+      full = f .full;
       seen-full = omega (arith, n, ap (λ (q : Place). q .seen) i, ap (λ (q : Place). q .seen) j);
     }
 
@@ -141,21 +133,21 @@ module _ (p : Place) (m : Memory) where
   unfolding roomA roomB
   both-filters = take-append-drop (p .filter) (m .filter)
 
--- ---- the bitmaps
-module _ (u seen new : List ℕ) (n : length seen ≡ 512) (e : length u ≡ 256) where
-  pub first-bits : laid 0 256 seen u ≡ u ++ drop 256 seen
-  first-bits =
-      ap (λ s. laid 0 256 s u) (sym (take-append-drop 256 seen))
-      ∙ first-laid (take 256 seen) (drop 256 seen) u 256 (length-take-le 256 seen (omega (arith, n)))
+-- ---- the indexes
+module _ (u seen new : List ℕ) (n : length seen ≡ 22528) (e : length u ≡ 11264) where
+  pub first-index : laid 0 11264 seen u ≡ u ++ drop 11264 seen
+  first-index =
+      ap (λ s. laid 0 11264 s u) (sym (take-append-drop 11264 seen))
+      ∙ first-laid (take 11264 seen) (drop 11264 seen) u 11264 (length-take-le 11264 seen (omega (arith, n)))
 
-  rest-long : length (drop 256 seen) ≡ 512 - 256
-  rest-long = length-drop 256 seen ∙ omega (arith, n)
+  rest-long : length (drop 11264 seen) ≡ 22528 - 11264
+  rest-long = length-drop 11264 seen ∙ omega (arith, n)
 
-  pub second-bits : laid 256 512 (u ++ drop 256 seen) new ≡ u ++ new
-  second-bits = second-laid u (drop 256 seen) new 256 e 512 rest-long
+  pub second-index : laid 11264 22528 (u ++ drop 11264 seen) new ≡ u ++ new
+  second-index = second-laid u (drop 11264 seen) new 11264 e 22528 rest-long
 
-  pub second-there : between 256 512 (u ++ drop 256 seen) ≡ drop 256 seen
-  second-there = second-between u (drop 256 seen) [] 256 e 512 rest-long
+  pub second-there : between 11264 22528 (u ++ drop 11264 seen) ≡ drop 11264 seen
+  second-there = second-between u (drop 11264 seen) [] 11264 e 22528 rest-long
 
 -- ---- the call's answers
 module _ (l : Layout) (s t : Session) (m : Memory) where
@@ -177,20 +169,23 @@ module _ (l : Layout) (s t : Session) (m : Memory) where
 
 -- a session that passes the test stands in its room
 side-stands : (l : Layout) (s : Session) (a : Memory) → Rooms l (s .sizes) a → testOf l s a ≡ true → Stands l (switchOf s) (sideOf l s a)
-side-stands l s a r h = record {
-  fits = record {
-    table = r .table;
-    room = r .room;
-    listed = listed-few l (s .sizes) (s .salt) (s .listed) (a .table) (a .list) (test8.passed l (s .sizes) (s .salt) (s .listed) (a .table) (a .list) h);
-    covers = seen-covers l (s .sizes) (s .salt) (a .list .keys) (replicate 256 0) (s .listed) (length-replicate {A = ℕ} 256 0);
-  };
-  packets-fit = r .packets-fit;
-}
+side-stands l s a r h =
+    let few = listed-few l (s .sizes) (s .salt) (s .listed) (a .table) (a .list) (test8.passed l (s .sizes) (s .salt) (s .listed) (a .table) (a .list) h) in
+    record {
+      fits = record {
+        table = r .table;
+        room = r .room;
+        listed = few;
+        covers = seen-covers l (s .sizes) (s .salt) (a .list .keys) (replicate 11264 0) (s .listed)
+            (omega (arith, few, table-high l (s .sizes) (r .table .lays) (r .table .ranged))) empty-zeros;
+      };
+      packets-fit = r .packets-fit;
+    }
 
--- all tests are passed; the bitmaps stand beside each other
+-- all tests are passed; the indexes stand beside each other
 module _ (l : Layout) (s t : Session) (m : Memory) (lays : Lays l) (h : Passing l s t m) {p e : Place} (pi : p ≡ seam l (s .sizes))
     (ei : e ≡ roomEnd l (s .sizes) (t .sizes)) {seen : List ℕ}
-    (si : seen ≡ seenIn l s (roomA (seam l (s .sizes)) m) (replicate 256 0) ++ seenIn l t (roomB (seam l (s .sizes)) m) (replicate 256 0)) where
+    (si : seen ≡ seenIn l s (roomA (seam l (s .sizes)) m) (replicate 11264 0) ++ seenIn l t (roomB (seam l (s .sizes)) m) (replicate 11264 0)) where
   abbrev a : Memory
   a = roomA (seam l (s .sizes)) m
 
@@ -209,30 +204,30 @@ module _ (l : Layout) (s t : Session) (m : Memory) (lays : Lays l) (h : Passing 
   next : e ≡ placeAfter l (t .sizes) p
   next = ei ∙ ap (placeAfter l (t .sizes)) (sym pi)
 
-  seam-bits : p .seen ≡ 256
+  seam-index : p .seen ≡ 11264
   unfolding placeAfter
-  seam-bits = omega (arith, ap (λ (q : Place). q .seen) pi)
+  seam-index = omega (arith, ap (λ (q : Place). q .seen) pi)
 
-  end-bits : e .seen ≡ 512
+  end-index : e .seen ≡ 22528
   unfolding placeAfter
-  end-bits = omega (arith, ap (λ (q : Place). q .seen) next, seam-bits)
+  end-index = omega (arith, ap (λ (q : Place). q .seen) next, seam-index)
 
-  bits-long : (u : Session) (x : Memory) → length (seenIn l u x (replicate 256 0)) ≡ 256
-  bits-long u x = length-seen l (u .sizes) (u .salt) (x .list .keys) (replicate 256 0) (u .listed) ∙ length-replicate {A = ℕ} 256 0
+  index-long : (u : Session) (x : Memory) → length (seenIn l u x (replicate 11264 0)) ≡ 11264
+  index-long u x = length-seen l (u .sizes) (u .salt) (x .list .keys) (replicate 11264 0) (u .listed) ∙ length-replicate {A = ℕ} 11264 0
 
-  long : length seen ≡ 512
-  long = ap length si ∙ length-append (seenIn l s a (replicate 256 0)) (seenIn l t b (replicate 256 0)) ∙ omega (arith, bits-long s a, bits-long t b)
+  long : length seen ≡ 22528
+  long = ap length si ∙ length-append (seenIn l s a (replicate 11264 0)) (seenIn l t b (replicate 11264 0)) ∙ omega (arith, index-long s a, index-long t b)
 
   part-a-is : partAt origin p (s .listed) w ≡ sideOf l s a
   part-a-is = λ k. side (s .listed) ((table-a p m ∙ ap (λ q. roomA q m .table) pi) k) ((packets-in-a p m ∙ ap (λ q. roomA q m .packets) pi) k)
       ((list-a p m ∙ ap (λ q. roomA q m .list) pi) k)
-      (((λ i. between 0 (seam-bits i) (si i)) ∙ first-between (seenIn l s a (replicate 256 0)) (seenIn l t b (replicate 256 0)) [] 256 (bits-long s a)) k)
+      (((λ i. between 0 (seam-index i) (si i)) ∙ first-between (seenIn l s a (replicate 11264 0)) (seenIn l t b (replicate 11264 0)) [] 11264 (index-long s a)) k)
 
   part-b-is : partAt p e (t .listed) w ≡ sideOf l t b
   part-b-is = λ k. side (t .listed) ((table-b p m e full ∙ ap (λ q. roomB q m .table) pi) k) ((packets-in-b p m e full ∙ ap (λ q. roomB q m .packets) pi) k)
       ((list-b p m e full ∙ ap (λ q. roomB q m .list) pi) k)
-      (((λ i. between (seam-bits i) (end-bits i) (si i)) ∙ second-between (seenIn l s a (replicate 256 0)) (seenIn l t b (replicate 256 0)) [] 256 (bits-long s a)
-      512 (bits-long t b)) k)
+      (((λ i. between (seam-index i) (end-index i) (si i)) ∙ second-between (seenIn l s a (replicate 11264 0)) (seenIn l t b (replicate 11264 0)) [] 11264 (index-long s a)
+      22528 (index-long t b)) k)
 
   pub filter-full : length (m .filter) ≡ e .filter
   filter-full = full .filter-full
@@ -241,21 +236,7 @@ module _ (l : Layout) (s t : Session) (m : Memory) (lays : Lays l) (h : Passing 
   call-both =
       let n = ends p m e full l (s .sizes) (t .sizes) seen lays (ranged (s .sizes) (h .ranged-a)) (ranged (t .sizes) (h .ranged-b)) pi next long in
       record {
-        lays = lays;
-        ranged-a = n .ranged-a;
-        ranged-b = n .ranged-b;
-        seam-is = pi;
-        end-is = ei;
-        xors-full = n .xors-full;
-        flows-full = n .flows-full;
-        unknowns-full = n .unknowns-full;
-        positions-full = n .positions-full;
-        marks-full = n .marks-full;
-        packets-full = n .packets-full;
-        keys-full = n .keys-full;
-        counts-full = n .counts-full;
-        flags-full = n .flags-full;
-        seen-full = n .seen-full;
+        ends = n;
         stands-a = subst (Stands l (switchOf s)) (sym part-a-is) (side-stands l s a (rooms .0) (h .session-a));
         stands-b = subst (Stands l (switchOf t)) (sym part-b-is) (side-stands l t b (rooms .1) (h .session-b));
       }

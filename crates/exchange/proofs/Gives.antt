@@ -22,47 +22,44 @@ use Rattle.parts.proofs.Areas.{length-between, laid-same}
 use Rattle.parts.proofs.Hands.{keys-fits, keys-alike, twelves-list}
 use Rattle.exchange.specs.Exchange.{pair, settleBoth, handBoth, round, Left, leftBy, switchOf, joinedList, joinedSides, seam, roomEnd, pairIn, Both}
 use Rattle.exchange.proofs.Both.{Long, stands-long, Lies, lies-a, lies-b, lies-with-a, lies-with-b}
-use Rattle.exchange.proofs.Steps.{place-ends, Numbers, numbers, inside-a, inside-b}
+use Rattle.exchange.proofs.Steps.{Numbers, numbers, inside-a, inside-b}
 
 -- ---- what the calls need
 module _ {l : Layout} {s t : Session} {p e : Place} {a b : ℕ} {r : Areas} (h : Both l s t p e a b r) (filter : List ℕ) (f : length filter ≡ e .filter) where
-  seam-is-in : p ≡ placeAfter l (s .sizes) origin
-  seam-is-in = h .seam-is
-
   pub filter-a : length (between 0 (p .filter) filter) ≡ filterBytes (s .sizes)
   unfolding placeAfter
   filter-a =
-      length-between 0 (p .filter) filter (omega arith) (omega (arith, f, numbers h .filter-up)) ∙ omega (arith, ap (λ (q : Place). q .filter) seam-is-in)
+      length-between 0 (p .filter) filter (omega arith) (omega (arith, f, numbers h .filter-up)) ∙ omega (arith, ap (λ (q : Place). q .filter) (h .ends .seam-is))
 
   pub filter-b : length (between (p .filter) (e .filter) filter) ≡ filterBytes (t .sizes)
   unfolding placeAfter
   filter-b =
       length-between (p .filter) (e .filter) filter (numbers h .filter-up) (omega (arith, f))
-      ∙ omega (arith, ap (λ (q : Place). q .filter) (place-ends h))
+      ∙ omega (arith, ap (λ (q : Place). q .filter) (h .ends .end-is))
 
   -- so many keys fill no more than the lists
   keys-a : a * l .key ≤ p .keys
   unfolding placeAfter
   keys-a =
       let most = mul-le-mul {n₁ = a} {m₁ = l .key} {n₂ = 2 * tableCells l (s .sizes)} {m₂ = l .key} (h .stands-a .fits .listed) (omega arith) in
-      omega (arith, most, ap (λ (q : Place). q .keys) seam-is-in)
+      omega (arith, most, ap (λ (q : Place). q .keys) (h .ends .seam-is))
 
   keys-b : p .keys + b * l .key ≤ e .keys
   unfolding placeAfter
   keys-b =
       let most = mul-le-mul {n₁ = b} {m₁ = l .key} {n₂ = 2 * tableCells l (t .sizes)} {m₂ = l .key} (h .stands-b .fits .listed) (omega arith) in
-      omega (arith, most, ap (λ (q : Place). q .keys) (place-ends h))
+      omega (arith, most, ap (λ (q : Place). q .keys) (h .ends .end-is))
 
   keys-high : e .keys ≤ 16777216
   unfolding placeAfter
   keys-high =
-      let key = cell-high l (s .sizes) (h .lays) (h .ranged-a) in
-      let x = table-high l (s .sizes) (h .lays) (h .ranged-a) in
-      let y = table-high l (t .sizes) (h .lays) (h .ranged-b) in
-      let short = h .lays .key-fits in
+      let key = cell-high l (s .sizes) (h .ends .lays) (h .ends .ranged-a) in
+      let x = table-high l (s .sizes) (h .ends .lays) (h .ends .ranged-a) in
+      let y = table-high l (t .sizes) (h .ends .lays) (h .ends .ranged-b) in
+      let short = h .ends .lays .key-fits in
       let u = mul-le-mul {n₁ = 2 * tableCells l (s .sizes)} {m₁ = l .key} {n₂ = 3072} {m₂ = 480} (omega (arith, x)) (omega (arith, key, short)) in
       let v = mul-le-mul {n₁ = 2 * tableCells l (t .sizes)} {m₁ = l .key} {n₂ = 3072} {m₂ = 480} (omega (arith, y)) (omega (arith, key, short)) in
-      omega (arith, u, v, ap (λ (q : Place). q .keys) seam-is-in, ap (λ (q : Place). q .keys) (place-ends h))
+      omega (arith, u, v, ap (λ (q : Place). q .keys) (h .ends .seam-is), ap (λ (q : Place). q .keys) (h .ends .end-is))
 
   pub gives-b : Gives l (t .sizes) (t .salt) p e b 0 a filter (r .table) (r .list) (r .seen)
   gives-b = record {
@@ -71,9 +68,9 @@ module _ {l : Layout} {s t : Session} {p e : Place} {a b : ℕ} {r : Areas} (h :
     filter-in = omega (arith, f);
     filter-fits = filter-b;
     fits = h .stands-b .fits;
-    keys-in = omega (arith, keys-a, numbers h .keys-up, h .keys-full);
+    keys-in = omega (arith, keys-a, numbers h .keys-up, h .ends .full .keys-full);
     keys-few = omega (arith, keys-a, numbers h .keys-up, keys-high);
-    few = omega (arith, h .stands-a .fits .listed, table-high l (s .sizes) (h .lays) (h .ranged-a));
+    few = omega (arith, h .stands-a .fits .listed, table-high l (s .sizes) (h .ends .lays) (h .ends .ranged-a));
     apart = inl (omega (arith, keys-a));
   }
 
@@ -84,9 +81,9 @@ module _ {l : Layout} {s t : Session} {p e : Place} {a b : ℕ} {r : Areas} (h :
     filter-in = omega (arith, f, numbers h .filter-up);
     filter-fits = filter-a;
     fits = h .stands-a .fits;
-    keys-in = omega (arith, keys-b, h .keys-full);
+    keys-in = omega (arith, keys-b, h .ends .full .keys-full);
     keys-few = omega (arith, keys-b, keys-high);
-    few = omega (arith, h .stands-b .fits .listed, table-high l (t .sizes) (h .lays) (h .ranged-b));
+    few = omega (arith, h .stands-b .fits .listed, table-high l (t .sizes) (h .ends .lays) (h .ends .ranged-b));
     apart = inr (omega arith);
   }
 
@@ -165,7 +162,7 @@ module _ (l : Layout) (A B : Switch) (p e : Place) (seam-is : p ≡ placeAfter l
         → let o = handList l A (between 0 (p .filter) filter) (b .list .keys) (b .listed) a in
         (x ≡ o .listed) × (y ≡ o .twelves) × Lies l A B p e seam-is end-is (withGiven a o) b (areas t (s .packets) rs seen)
     given-a f q =
-        let long : length (a .list .keys) ≡ p .keys = stands-long l A origin p a seam-is (h .stands-a) .keys-long ∙ omega arith in
+        let long : length (a .list .keys) ≡ p .keys = stands-long l A origin p a seam-is (h .stands-a) .fills .keys-fill ∙ omega arith in
         let there : drop (p .keys) (s .list .keys) ≡ b .list .keys = ap (drop (p .keys)) keys-are ∙ drop-at (a .list .keys) (b .list .keys) (p .keys) long in
         let w = given-part l A origin p (a .listed) (p .keys) (b .listed) filter s a (b .list .keys) (lies-a l A B p e seam-is end-is h)
         (λ k lt. ap (λ ks. keyAt l ks k) there) refl q in (

@@ -14,20 +14,12 @@ use Rattle.layout.specs.Sizes.{Lays, Ranged}
 use Rattle.room.specs.Memory.{Memory, Rooms}
 use Rattle.parts.specs.declared.Place.{Place}
 use Rattle.parts.specs.Areas.{placeAfter}
-use Rattle.exchange.specs.Exchange.{seam, roomEnd, areasFit, roomA, roomB, joinedTable, joinedList, joined}
+use Rattle.exchange.specs.Exchange.{Full, seam, roomEnd, areasFit, roomA, roomB, joinedTable, joinedList, joined}
 
 -- every list ends at the place e
 pub record FullRoom (e : Place) (m : Memory) : Type 0 where
   pub filter-full : length (m .filter) ≡ e .filter
-  pub packets-full : length (m .packets) ≡ e .cells
-  pub xors-full : length (m .table .xors) ≡ e .xors
-  pub flows-full : length (m .table .flows) ≡ e .cells
-  pub unknowns-full : length (m .table .unknowns) ≡ e .cells
-  pub positions-full : length (m .table .positions) ≡ e .cells
-  pub marks-full : length (m .table .marks) ≡ e .words
-  pub keys-full : length (m .list .keys) ≡ e .keys
-  pub counts-full : length (m .list .counts) ≡ e .records
-  pub flags-full : length (m .list .flags) ≡ e .records
+  pub full : Full e (m .table) (m .packets) (m .list)
 
 -- ---- the test of the lengths
 module _ (e : Place) (m : Memory) where
@@ -62,30 +54,32 @@ module _ (e : Place) (m : Memory) where
       let h₈ = and-r keys from-counts h₇ in
       record {
         filter-full = eqb-true (length (m .filter)) (e .filter) (and-l filter from-packets h);
-        packets-full = eqb-true (length (m .packets)) (e .cells) (and-l packets from-xors h₁);
-        xors-full = eqb-true (length (m .table .xors)) (e .xors) (and-l xors from-flows h₂);
-        flows-full = eqb-true (length (m .table .flows)) (e .cells) (and-l flows from-unknowns h₃);
-        unknowns-full = eqb-true (length (m .table .unknowns)) (e .cells) (and-l unknowns from-positions h₄);
-        positions-full = eqb-true (length (m .table .positions)) (e .cells) (and-l positions from-marks h₅);
-        marks-full = eqb-true (length (m .table .marks)) (e .words) (and-l marks from-keys h₆);
-        keys-full = eqb-true (length (m .list .keys)) (e .keys) (and-l keys from-counts h₇);
-        counts-full = eqb-true (length (m .list .counts)) (e .records) (and-l counts flags h₈);
-        flags-full = eqb-true (length (m .list .flags)) (e .records) (and-r counts flags h₈);
+        full = record {
+          packets-full = eqb-true (length (m .packets)) (e .cells) (and-l packets from-xors h₁);
+          xors-full = eqb-true (length (m .table .xors)) (e .xors) (and-l xors from-flows h₂);
+          flows-full = eqb-true (length (m .table .flows)) (e .cells) (and-l flows from-unknowns h₃);
+          unknowns-full = eqb-true (length (m .table .unknowns)) (e .cells) (and-l unknowns from-positions h₄);
+          positions-full = eqb-true (length (m .table .positions)) (e .cells) (and-l positions from-marks h₅);
+          marks-full = eqb-true (length (m .table .marks)) (e .words) (and-l marks from-keys h₆);
+          keys-full = eqb-true (length (m .list .keys)) (e .keys) (and-l keys from-counts h₇);
+          counts-full = eqb-true (length (m .list .counts)) (e .records) (and-l counts flags h₈);
+          flags-full = eqb-true (length (m .list .flags)) (e .records) (and-r counts flags h₈);
+        };
       }
 
   pub full-areas : FullRoom e m → areasFit e m ≡ true
   unfolding areasFit
   full-areas f = rw (
     eq-eqb (length (m .filter)) (e .filter) (f .filter-full),
-    eq-eqb (length (m .packets)) (e .cells) (f .packets-full),
-    eq-eqb (length (m .table .xors)) (e .xors) (f .xors-full),
-    eq-eqb (length (m .table .flows)) (e .cells) (f .flows-full),
-    eq-eqb (length (m .table .unknowns)) (e .cells) (f .unknowns-full),
-    eq-eqb (length (m .table .positions)) (e .cells) (f .positions-full),
-    eq-eqb (length (m .table .marks)) (e .words) (f .marks-full),
-    eq-eqb (length (m .list .keys)) (e .keys) (f .keys-full),
-    eq-eqb (length (m .list .counts)) (e .records) (f .counts-full),
-    eq-eqb (length (m .list .flags)) (e .records) (f .flags-full),
+    eq-eqb (length (m .packets)) (e .cells) (f .full .packets-full),
+    eq-eqb (length (m .table .xors)) (e .xors) (f .full .xors-full),
+    eq-eqb (length (m .table .flows)) (e .cells) (f .full .flows-full),
+    eq-eqb (length (m .table .unknowns)) (e .cells) (f .full .unknowns-full),
+    eq-eqb (length (m .table .positions)) (e .cells) (f .full .positions-full),
+    eq-eqb (length (m .table .marks)) (e .words) (f .full .marks-full),
+    eq-eqb (length (m .list .keys)) (e .keys) (f .full .keys-full),
+    eq-eqb (length (m .list .counts)) (e .records) (f .full .counts-full),
+    eq-eqb (length (m .list .flags)) (e .records) (f .full .flags-full),
   )
 
 -- ---- one session: room's lengths are those up to the seam
@@ -94,35 +88,37 @@ module _ (l : Layout) (z : Sizes) (m : Memory) where
   unfolding placeAfter
   rooms-full r = record {
     filter-full = r .filter-fits ∙ omega arith;
-    packets-full = r .packets-fit ∙ omega arith;
-    xors-full = r .table .xors-fit ∙ omega arith;
-    flows-full = r .table .flows-fit ∙ omega arith;
-    unknowns-full = r .table .unknowns-fit ∙ omega arith;
-    positions-full = r .table .positions-fit ∙ omega arith;
-    marks-full = r .table .marks-fit ∙ omega arith;
-    keys-full = r .room .keys-fit ∙ omega arith;
-    counts-full = r .room .counts-fit ∙ omega arith;
-    flags-full = r .room .flags-fit ∙ omega arith;
+    full = record {
+      packets-full = r .packets-fit ∙ omega arith;
+      xors-full = r .table .xors-fit ∙ omega arith;
+      flows-full = r .table .flows-fit ∙ omega arith;
+      unknowns-full = r .table .unknowns-fit ∙ omega arith;
+      positions-full = r .table .positions-fit ∙ omega arith;
+      marks-full = r .table .marks-fit ∙ omega arith;
+      keys-full = r .room .keys-fit ∙ omega arith;
+      counts-full = r .room .counts-fit ∙ omega arith;
+      flags-full = r .room .flags-fit ∙ omega arith;
+    };
   }
 
   full-rooms : Lays l → Ranged z → FullRoom (seam l z) m → Rooms l z m
   unfolding placeAfter
   full-rooms lays ranged f = record {
     filter-fits = f .filter-full ∙ omega arith;
-    packets-fit = f .packets-full ∙ omega arith;
+    packets-fit = f .full .packets-full ∙ omega arith;
     table = record {
       lays = lays;
       ranged = ranged;
-      xors-fit = f .xors-full ∙ omega arith;
-      flows-fit = f .flows-full ∙ omega arith;
-      unknowns-fit = f .unknowns-full ∙ omega arith;
-      positions-fit = f .positions-full ∙ omega arith;
-      marks-fit = f .marks-full ∙ omega arith;
+      xors-fit = f .full .xors-full ∙ omega arith;
+      flows-fit = f .full .flows-full ∙ omega arith;
+      unknowns-fit = f .full .unknowns-full ∙ omega arith;
+      positions-fit = f .full .positions-full ∙ omega arith;
+      marks-fit = f .full .marks-full ∙ omega arith;
     };
     room = record {
-      keys-fit = f .keys-full ∙ omega arith;
-      counts-fit = f .counts-full ∙ omega arith;
-      flags-fit = f .flags-full ∙ omega arith;
+      keys-fit = f .full .keys-full ∙ omega arith;
+      counts-fit = f .full .counts-full ∙ omega arith;
+      flags-fit = f .full .flags-full ∙ omega arith;
     };
   }
 
@@ -132,35 +128,37 @@ module _ (l : Layout) (z : Sizes) (p : Place) (m : Memory) (f : FullRoom (placeA
   unfolding placeAfter roomA
   full-a = record {
     filter-full = length-take-le (p .filter) (m .filter) (omega (arith, f .filter-full));
-    packets-full = length-take-le (p .cells) (m .packets) (omega (arith, f .packets-full));
-    xors-full = length-take-le (p .xors) (m .table .xors) (omega (arith, f .xors-full));
-    flows-full = length-take-le (p .cells) (m .table .flows) (omega (arith, f .flows-full));
-    unknowns-full = length-take-le (p .cells) (m .table .unknowns) (omega (arith, f .unknowns-full));
-    positions-full = length-take-le (p .cells) (m .table .positions) (omega (arith, f .positions-full));
-    marks-full = length-take-le (p .words) (m .table .marks) (omega (arith, f .marks-full));
-    keys-full = length-take-le (p .keys) (m .list .keys) (omega (arith, f .keys-full));
-    counts-full = length-take-le (p .records) (m .list .counts) (omega (arith, f .counts-full));
-    flags-full = length-take-le (p .records) (m .list .flags) (omega (arith, f .flags-full));
+    full = record {
+      packets-full = length-take-le (p .cells) (m .packets) (omega (arith, f .full .packets-full));
+      xors-full = length-take-le (p .xors) (m .table .xors) (omega (arith, f .full .xors-full));
+      flows-full = length-take-le (p .cells) (m .table .flows) (omega (arith, f .full .flows-full));
+      unknowns-full = length-take-le (p .cells) (m .table .unknowns) (omega (arith, f .full .unknowns-full));
+      positions-full = length-take-le (p .cells) (m .table .positions) (omega (arith, f .full .positions-full));
+      marks-full = length-take-le (p .words) (m .table .marks) (omega (arith, f .full .marks-full));
+      keys-full = length-take-le (p .keys) (m .list .keys) (omega (arith, f .full .keys-full));
+      counts-full = length-take-le (p .records) (m .list .counts) (omega (arith, f .full .counts-full));
+      flags-full = length-take-le (p .records) (m .list .flags) (omega (arith, f .full .flags-full));
+    };
   }
 
   rooms-b : Lays l → Ranged z → Rooms l z (roomB p m)
   unfolding placeAfter roomB
   rooms-b lays ranged = record {
     filter-fits = length-drop (p .filter) (m .filter) ∙ omega (arith, f .filter-full);
-    packets-fit = length-drop (p .cells) (m .packets) ∙ omega (arith, f .packets-full);
+    packets-fit = length-drop (p .cells) (m .packets) ∙ omega (arith, f .full .packets-full);
     table = record {
       lays = lays;
       ranged = ranged;
-      xors-fit = length-drop (p .xors) (m .table .xors) ∙ omega (arith, f .xors-full);
-      flows-fit = length-drop (p .cells) (m .table .flows) ∙ omega (arith, f .flows-full);
-      unknowns-fit = length-drop (p .cells) (m .table .unknowns) ∙ omega (arith, f .unknowns-full);
-      positions-fit = length-drop (p .cells) (m .table .positions) ∙ omega (arith, f .positions-full);
-      marks-fit = length-drop (p .words) (m .table .marks) ∙ omega (arith, f .marks-full);
+      xors-fit = length-drop (p .xors) (m .table .xors) ∙ omega (arith, f .full .xors-full);
+      flows-fit = length-drop (p .cells) (m .table .flows) ∙ omega (arith, f .full .flows-full);
+      unknowns-fit = length-drop (p .cells) (m .table .unknowns) ∙ omega (arith, f .full .unknowns-full);
+      positions-fit = length-drop (p .cells) (m .table .positions) ∙ omega (arith, f .full .positions-full);
+      marks-fit = length-drop (p .words) (m .table .marks) ∙ omega (arith, f .full .marks-full);
     };
     room = record {
-      keys-fit = length-drop (p .keys) (m .list .keys) ∙ omega (arith, f .keys-full);
-      counts-fit = length-drop (p .records) (m .list .counts) ∙ omega (arith, f .counts-full);
-      flags-fit = length-drop (p .records) (m .list .flags) ∙ omega (arith, f .flags-full);
+      keys-fit = length-drop (p .keys) (m .list .keys) ∙ omega (arith, f .full .keys-full);
+      counts-fit = length-drop (p .records) (m .list .counts) ∙ omega (arith, f .full .counts-full);
+      flags-fit = length-drop (p .records) (m .list .flags) ∙ omega (arith, f .full .flags-full);
     };
   }
 
@@ -176,15 +174,17 @@ full-joined : (l : Layout) (z : Sizes) (p : Place) (a b : Memory) → FullRoom p
 unfolding placeAfter joined joinedTable joinedList
 full-joined l z p a b f r = record {
   filter-full = length-append (a .filter) (b .filter) ∙ ap₂ _+_ (f .filter-full) (r .filter-fits);
-  packets-full = length-append (a .packets) (b .packets) ∙ ap₂ _+_ (f .packets-full) (r .packets-fit);
-  xors-full = length-append (a .table .xors) (b .table .xors) ∙ ap₂ _+_ (f .xors-full) (r .table .xors-fit);
-  flows-full = length-append (a .table .flows) (b .table .flows) ∙ ap₂ _+_ (f .flows-full) (r .table .flows-fit);
-  unknowns-full = length-append (a .table .unknowns) (b .table .unknowns) ∙ ap₂ _+_ (f .unknowns-full) (r .table .unknowns-fit);
-  positions-full = length-append (a .table .positions) (b .table .positions) ∙ ap₂ _+_ (f .positions-full) (r .table .positions-fit);
-  marks-full = length-append (a .table .marks) (b .table .marks) ∙ ap₂ _+_ (f .marks-full) (r .table .marks-fit);
-  keys-full = length-append (a .list .keys) (b .list .keys) ∙ ap₂ _+_ (f .keys-full) (r .room .keys-fit);
-  counts-full = length-append (a .list .counts) (b .list .counts) ∙ ap₂ _+_ (f .counts-full) (r .room .counts-fit);
-  flags-full = length-append (a .list .flags) (b .list .flags) ∙ ap₂ _+_ (f .flags-full) (r .room .flags-fit);
+  full = record {
+    packets-full = length-append (a .packets) (b .packets) ∙ ap₂ _+_ (f .full .packets-full) (r .packets-fit);
+    xors-full = length-append (a .table .xors) (b .table .xors) ∙ ap₂ _+_ (f .full .xors-full) (r .table .xors-fit);
+    flows-full = length-append (a .table .flows) (b .table .flows) ∙ ap₂ _+_ (f .full .flows-full) (r .table .flows-fit);
+    unknowns-full = length-append (a .table .unknowns) (b .table .unknowns) ∙ ap₂ _+_ (f .full .unknowns-full) (r .table .unknowns-fit);
+    positions-full = length-append (a .table .positions) (b .table .positions) ∙ ap₂ _+_ (f .full .positions-full) (r .table .positions-fit);
+    marks-full = length-append (a .table .marks) (b .table .marks) ∙ ap₂ _+_ (f .full .marks-full) (r .table .marks-fit);
+    keys-full = length-append (a .list .keys) (b .list .keys) ∙ ap₂ _+_ (f .full .keys-full) (r .room .keys-fit);
+    counts-full = length-append (a .list .counts) (b .list .counts) ∙ ap₂ _+_ (f .full .counts-full) (r .room .counts-fit);
+    flags-full = length-append (a .list .flags) (b .list .flags) ∙ ap₂ _+_ (f .full .flags-full) (r .room .flags-fit);
+  };
 }
 
 full-joined-a : (p : Place) (a b : Memory) → FullRoom p a → roomA p (joined a b) ≡ a
@@ -192,17 +192,17 @@ unfolding roomA joined joinedTable joinedList
 full-joined-a p a b f = λ i. record {
   filter = take-at (a .filter) (b .filter) (p .filter) (f .filter-full) i;
   table = record {
-    xors = take-at (a .table .xors) (b .table .xors) (p .xors) (f .xors-full) i;
-    flows = take-at (a .table .flows) (b .table .flows) (p .cells) (f .flows-full) i;
-    unknowns = take-at (a .table .unknowns) (b .table .unknowns) (p .cells) (f .unknowns-full) i;
-    positions = take-at (a .table .positions) (b .table .positions) (p .cells) (f .positions-full) i;
-    marks = take-at (a .table .marks) (b .table .marks) (p .words) (f .marks-full) i;
+    xors = take-at (a .table .xors) (b .table .xors) (p .xors) (f .full .xors-full) i;
+    flows = take-at (a .table .flows) (b .table .flows) (p .cells) (f .full .flows-full) i;
+    unknowns = take-at (a .table .unknowns) (b .table .unknowns) (p .cells) (f .full .unknowns-full) i;
+    positions = take-at (a .table .positions) (b .table .positions) (p .cells) (f .full .positions-full) i;
+    marks = take-at (a .table .marks) (b .table .marks) (p .words) (f .full .marks-full) i;
   };
-  packets = take-at (a .packets) (b .packets) (p .cells) (f .packets-full) i;
+  packets = take-at (a .packets) (b .packets) (p .cells) (f .full .packets-full) i;
   list = record {
-    keys = take-at (a .list .keys) (b .list .keys) (p .keys) (f .keys-full) i;
-    counts = take-at (a .list .counts) (b .list .counts) (p .records) (f .counts-full) i;
-    flags = take-at (a .list .flags) (b .list .flags) (p .records) (f .flags-full) i;
+    keys = take-at (a .list .keys) (b .list .keys) (p .keys) (f .full .keys-full) i;
+    counts = take-at (a .list .counts) (b .list .counts) (p .records) (f .full .counts-full) i;
+    flags = take-at (a .list .flags) (b .list .flags) (p .records) (f .full .flags-full) i;
   };
 }
 
@@ -211,17 +211,17 @@ unfolding roomB joined joinedTable joinedList
 full-joined-b p a b f = λ i. record {
   filter = drop-at (a .filter) (b .filter) (p .filter) (f .filter-full) i;
   table = record {
-    xors = drop-at (a .table .xors) (b .table .xors) (p .xors) (f .xors-full) i;
-    flows = drop-at (a .table .flows) (b .table .flows) (p .cells) (f .flows-full) i;
-    unknowns = drop-at (a .table .unknowns) (b .table .unknowns) (p .cells) (f .unknowns-full) i;
-    positions = drop-at (a .table .positions) (b .table .positions) (p .cells) (f .positions-full) i;
-    marks = drop-at (a .table .marks) (b .table .marks) (p .words) (f .marks-full) i;
+    xors = drop-at (a .table .xors) (b .table .xors) (p .xors) (f .full .xors-full) i;
+    flows = drop-at (a .table .flows) (b .table .flows) (p .cells) (f .full .flows-full) i;
+    unknowns = drop-at (a .table .unknowns) (b .table .unknowns) (p .cells) (f .full .unknowns-full) i;
+    positions = drop-at (a .table .positions) (b .table .positions) (p .cells) (f .full .positions-full) i;
+    marks = drop-at (a .table .marks) (b .table .marks) (p .words) (f .full .marks-full) i;
   };
-  packets = drop-at (a .packets) (b .packets) (p .cells) (f .packets-full) i;
+  packets = drop-at (a .packets) (b .packets) (p .cells) (f .full .packets-full) i;
   list = record {
-    keys = drop-at (a .list .keys) (b .list .keys) (p .keys) (f .keys-full) i;
-    counts = drop-at (a .list .counts) (b .list .counts) (p .records) (f .counts-full) i;
-    flags = drop-at (a .list .flags) (b .list .flags) (p .records) (f .flags-full) i;
+    keys = drop-at (a .list .keys) (b .list .keys) (p .keys) (f .full .keys-full) i;
+    counts = drop-at (a .list .counts) (b .list .counts) (p .records) (f .full .counts-full) i;
+    flags = drop-at (a .list .flags) (b .list .flags) (p .records) (f .full .flags-full) i;
   };
 }
 

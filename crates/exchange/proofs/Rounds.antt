@@ -24,7 +24,7 @@ use Rattle.exchange.specs.declared.Ending.the-variants as end
 use Rattle.exchange.specs.Exchange.{Pair, pair, Ended, ended, thenB, settleBoth, handBoth, round, isOver, rounds, mostRounds, thenRounds, exchangeSides, switchOf, joinedSides, pairIn, roundOf, Left, left, leftBy, Both}
 use Rattle.exchange.proofs.Ending as ending
 use Rattle.exchange.proofs.Both.{settled-stands, Lies}
-use Rattle.exchange.proofs.Steps.{place-ends, lies-start, lies-at}
+use Rattle.exchange.proofs.Steps.{lies-start, lies-at}
 use Rattle.exchange.proofs.Gives.{filter-a, filter-b, given-stands, lies-pair, twelves-few}
 
 -- ---- a round keeps both in their room
@@ -137,7 +137,7 @@ module _ (l : Layout) (s t : Session) (p e : Place) (filter : List ℕ) where
           round-stands l A B f g (filter-a (h .both) filter full) (filter-b (h .both) filter full) q
           (record { stands-a = h .both .stands-a; stands-b = h .both .stands-b })
 
-      lies : Lies l A B p e (h .both .seam-is) (place-ends (h .both)) (y .pair .a) (y .pair .b) w′
+      lies : Lies l A B p e (h .both .ends .seam-is) (h .both .ends .end-is) (y .pair .a) (y .pair .b) w′
       lies = record { is = ap (λ (v : Left). v .room) o; stands-a = stand .stands-a; stands-b = stand .stands-b }
 
       numbers-are : r′ ≡ roundOf (y .pair .a .listed) (y .pair .b .listed) (y .pair .twelves) (y .ending)
@@ -167,7 +167,7 @@ module _ (l : Layout) (s t : Session) (p e : Place) (filter : List ℕ) where
             settled = over-not (r .a) (r .b) (r′ .a) (r′ .b) (r′ .ending) no;
             goes =
                 ap (rounds (rest - 1) l A f B g)
-                (lies-pair l A B p e (h .both .seam-is) (place-ends (h .both)) lies filter (r′ .twelves) a-is b-is ∙ ap (pair (y .pair .a) (y .pair .b)) c-is)
+                (lies-pair l A B p e (h .both .ends .seam-is) (h .both .ends .end-is) lies filter (r′ .twelves) a-is b-is ∙ ap (pair (y .pair .a) (y .pair .b)) c-is)
                 ∙ sym (ap (λ b. cond b y (rounds (rest - 1) l A f B g (y .pair))) (sym over-is ∙ no)) ∙ sym one-more ∙ h .goes;
             few = omega (
               arith,
@@ -176,8 +176,8 @@ module _ (l : Layout) (s t : Session) (p e : Place) (filter : List ℕ) where
               c-is,
               round-twelves l A B f g (filter-a (h .both) filter full) (filter-b (h .both) filter full) q
                   (record { stands-a = h .both .stands-a; stands-b = h .both .stands-b }),
-              table-high l (s .sizes) (h .both .lays) (h .both .ranged-a),
-              table-high l (t .sizes) (h .both .lays) (h .both .ranged-b),
+              table-high l (s .sizes) (h .both .ends .lays) (h .both .ends .ranged-a),
+              table-high l (t .sizes) (h .both .ends .lays) (h .both .ends .ranged-b),
             );
           }
 
@@ -209,7 +209,7 @@ module _ (l : Layout) (s t : Session) (p e : Place) (filter : List ℕ) {w₀ : 
   unfolding settleBoth
   first-twelves = then-twelves l (switchOf s) (switchOf t) (settleSide l (switchOf s) (start .a) .left) (start .b) 0 (settleSide l (switchOf s) (start .a) .stop)
 
-  first-lies : Lies l (switchOf s) (switchOf t) p e (h .seam-is) (place-ends h) (first .pair .a) (first .pair .b) w
+  first-lies : Lies l (switchOf s) (switchOf t) p e (h .ends .seam-is) (h .ends .end-is) (first .pair .a) (first .pair .b) w
   first-lies = record { is = ap (λ (v : Left). v .room) o; stands-a = first-stand .stands-a; stands-b = first-stand .stands-b }
 
   first-numbers : r ≡ roundOf (first .pair .a .listed) (first .pair .b .listed) (first .pair .twelves) (first .ending)
@@ -233,7 +233,7 @@ module _ (l : Layout) (s t : Session) (p e : Place) (filter : List ℕ) {w₀ : 
       let F = between 0 (p .filter) filter in
       let G = between (p .filter) (e .filter) filter in
       let is : pairIn p e (r .a) (r .b) 0 w ≡ first .pair =
-      lies-pair l (switchOf s) (switchOf t) p e (h .seam-is) (place-ends h) first-lies filter 0 (ap (λ (v : Round). v .a) first-numbers)
+      lies-pair l (switchOf s) (switchOf t) p e (h .ends .seam-is) (h .ends .end-is) first-lies filter 0 (ap (λ (v : Round). v .a) first-numbers)
       (ap (λ (v : Round). v .b) first-numbers)
       ∙ ap (pair (first .pair .a) (first .pair .b)) (sym first-twelves) in
       let end-is : end.Settled ≡ first .ending = sym q ∙ ap (λ (v : Round). v .ending) first-numbers in

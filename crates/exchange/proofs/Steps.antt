@@ -26,7 +26,7 @@ use Rattle.exchange.specs.declared.Round.{Round}
 use Rattle.exchange.specs.declared.Ending.{Ending}
 use Rattle.exchange.specs.declared.Ending.the-variants as end
 use Rattle.exchange.proofs.Ending as ending
-use Rattle.exchange.specs.Exchange.{Ended, ended, pair, endingA, endingB, thenB, settleBoth, isOver, switchOf, joinedTable, joinedList, joinedSides, seam, roomEnd, pairIn, roundOf, left, leftBy, Both}
+use Rattle.exchange.specs.Exchange.{Ended, ended, pair, endingA, endingB, thenB, settleBoth, isOver, switchOf, joinedTable, joinedList, joinedSides, seam, roomEnd, pairIn, roundOf, left, leftBy, Ends, Both}
 use Rattle.exchange.proofs.Both.{Long, stands-long, Lies, lies-a, lies-b, settles-a, settles-b}
 
 halves : (i j : ℕ) (s : List ℕ) → i ≤ j → length s ≡ j → between 0 i s ++ between i j s ≡ s
@@ -35,24 +35,6 @@ halves i j s up full =
   where
     sub-none : (n : ℕ) → n - 0 ≡ n
     sub-none n = omega arith
-
--- the places of two sessions of sizes y and z in areas that end with the second
-pub record Ends (l : Layout) (y z : Sizes) (p e : Place) (r : Areas) : Type 0 where
-  pub lays : Lays l
-  pub ranged-a : Ranged y
-  pub ranged-b : Ranged z
-  pub seam-is : p ≡ placeAfter l y origin
-  pub end-is : e ≡ placeAfter l z p
-  pub xors-full : length (r .table .xors) ≡ e .xors
-  pub flows-full : length (r .table .flows) ≡ e .cells
-  pub unknowns-full : length (r .table .unknowns) ≡ e .cells
-  pub positions-full : length (r .table .positions) ≡ e .cells
-  pub marks-full : length (r .table .marks) ≡ e .words
-  pub packets-full : length (r .packets) ≡ e .cells
-  pub keys-full : length (r .list .keys) ≡ e .keys
-  pub counts-full : length (r .list .counts) ≡ e .records
-  pub flags-full : length (r .list .flags) ≡ e .records
-  pub seen-full : length (r .seen) ≡ e .seen
 
 module _ {l : Layout} {y z : Sizes} {p e : Place} {r : Areas} (h : Ends l y z p e r) where
   -- where the places are, in numbers
@@ -66,7 +48,7 @@ module _ {l : Layout} {y z : Sizes} {p e : Place} {r : Areas} (h : Ends l y z p 
     pub records-few : e .records ≤ 6144
     pub keys-up : p .keys ≤ e .keys
     pub seen-up : p .seen ≤ e .seen
-    pub seen-few : e .seen ≤ 2048
+    pub seen-few : e .seen ≤ 90112
     pub filter-up : p .filter ≤ e .filter
 
   pub numbers-at : Numbers
@@ -94,21 +76,21 @@ module _ {l : Layout} {y z : Sizes} {p e : Place} {r : Areas} (h : Ends l y z p 
   pub first-inside : Inside origin p (r .table) (r .list) (r .seen)
   first-inside = let n = numbers-at in record {
     xors-up = omega arith;
-    xors-in = omega (arith, n .xors-up, h .xors-full);
+    xors-in = omega (arith, n .xors-up, h .full .xors-full);
     cells-up = omega arith;
     cells-few = omega (arith, n .cells-up, n .cells-few);
-    flows-in = omega (arith, n .cells-up, h .flows-full);
-    unknowns-in = omega (arith, n .cells-up, h .unknowns-full);
-    positions-in = omega (arith, n .cells-up, h .positions-full);
+    flows-in = omega (arith, n .cells-up, h .full .flows-full);
+    unknowns-in = omega (arith, n .cells-up, h .full .unknowns-full);
+    positions-in = omega (arith, n .cells-up, h .full .positions-full);
     words-up = omega arith;
     words-few = omega (arith, n .words-up, n .words-few);
-    marks-in = omega (arith, n .words-up, h .marks-full);
+    marks-in = omega (arith, n .words-up, h .full .marks-full);
     keys-up = omega arith;
-    keys-in = omega (arith, n .keys-up, h .keys-full);
+    keys-in = omega (arith, n .keys-up, h .full .keys-full);
     records-up = omega arith;
     records-few = omega (arith, n .records-up, n .records-few);
-    counts-in = omega (arith, n .records-up, h .counts-full);
-    flags-in = omega (arith, n .records-up, h .flags-full);
+    counts-in = omega (arith, n .records-up, h .full .counts-full);
+    flags-in = omega (arith, n .records-up, h .full .flags-full);
     seen-up = omega arith;
     seen-few = omega (arith, n .seen-up, n .seen-few);
     seen-in = omega (arith, n .seen-up, h .seen-full);
@@ -117,118 +99,100 @@ module _ {l : Layout} {y z : Sizes} {p e : Place} {r : Areas} (h : Ends l y z p 
   pub second-inside : Inside p e (r .table) (r .list) (r .seen)
   second-inside = let n = numbers-at in record {
     xors-up = n .xors-up;
-    xors-in = omega (arith, h .xors-full);
+    xors-in = omega (arith, h .full .xors-full);
     cells-up = n .cells-up;
     cells-few = omega (arith, n .cells-few);
-    flows-in = omega (arith, h .flows-full);
-    unknowns-in = omega (arith, h .unknowns-full);
-    positions-in = omega (arith, h .positions-full);
+    flows-in = omega (arith, h .full .flows-full);
+    unknowns-in = omega (arith, h .full .unknowns-full);
+    positions-in = omega (arith, h .full .positions-full);
     words-up = n .words-up;
     words-few = n .words-few;
-    marks-in = omega (arith, h .marks-full);
+    marks-in = omega (arith, h .full .marks-full);
     keys-up = n .keys-up;
-    keys-in = omega (arith, h .keys-full);
+    keys-in = omega (arith, h .full .keys-full);
     records-up = n .records-up;
     records-few = omega (arith, n .records-few);
-    counts-in = omega (arith, h .counts-full);
-    flags-in = omega (arith, h .flags-full);
+    counts-in = omega (arith, h .full .counts-full);
+    flags-in = omega (arith, h .full .flags-full);
     seen-up = n .seen-up;
     seen-few = n .seen-few;
     seen-in = omega (arith, h .seen-full);
   }
 
 module _ {l : Layout} {s t : Session} {p e : Place} {a b : ℕ} {r : Areas} (h : Both l s t p e a b r) where
-  pub place-ends : e ≡ placeAfter l (t .sizes) p
-  place-ends = h .end-is ∙ ap (placeAfter l (t .sizes)) (sym (h .seam-is))
-
-  pub both-ends : Ends l (s .sizes) (t .sizes) p e r
-  both-ends = record {
-    lays = h .lays;
-    ranged-a = h .ranged-a;
-    ranged-b = h .ranged-b;
-    seam-is = h .seam-is;
-    end-is = place-ends;
-    xors-full = h .xors-full;
-    flows-full = h .flows-full;
-    unknowns-full = h .unknowns-full;
-    positions-full = h .positions-full;
-    marks-full = h .marks-full;
-    packets-full = h .packets-full;
-    keys-full = h .keys-full;
-    counts-full = h .counts-full;
-    flags-full = h .flags-full;
-    seen-full = h .seen-full;
-  }
-
-  pub numbers : Numbers both-ends
-  numbers = numbers-at both-ends
+  pub numbers : Numbers (h .ends)
+  numbers = numbers-at (h .ends)
 
   pub inside-a : Inside origin p (r .table) (r .list) (r .seen)
-  inside-a = first-inside both-ends
+  inside-a = first-inside (h .ends)
 
   pub inside-b : Inside p e (r .table) (r .list) (r .seen)
-  inside-b = second-inside both-ends
+  inside-b = second-inside (h .ends)
 
   pub packets-a : p .cells ≤ length (r .packets)
-  packets-a = omega (arith, numbers .cells-up, h .packets-full)
+  packets-a = omega (arith, numbers .cells-up, h .ends .full .packets-full)
 
   pub packets-b : e .cells ≤ length (r .packets)
-  packets-b = omega (arith, h .packets-full)
+  packets-b = omega (arith, h .ends .full .packets-full)
 
-  pub lies-start : Lies l (switchOf s) (switchOf t) p e (h .seam-is) place-ends (partAt origin p a r) (partAt p e b r) r
+  pub lies-start : Lies l (switchOf s) (switchOf t) p e (h .ends .seam-is) (h .ends .end-is) (partAt origin p a r) (partAt p e b r) r
   unfolding tableAt listAt joinedTable joinedList
   lies-start = let n = numbers in record {
     is = sym (λ k. areas
         (record {
-          xors = halves (p .xors) (e .xors) (r .table .xors) (n .xors-up) (h .xors-full) k;
-          flows = halves (p .cells) (e .cells) (r .table .flows) (n .cells-up) (h .flows-full) k;
-          unknowns = halves (p .cells) (e .cells) (r .table .unknowns) (n .cells-up) (h .unknowns-full) k;
-          positions = halves (p .cells) (e .cells) (r .table .positions) (n .cells-up) (h .positions-full) k;
-          marks = halves (p .words) (e .words) (r .table .marks) (n .words-up) (h .marks-full) k;
+          xors = halves (p .xors) (e .xors) (r .table .xors) (n .xors-up) (h .ends .full .xors-full) k;
+          flows = halves (p .cells) (e .cells) (r .table .flows) (n .cells-up) (h .ends .full .flows-full) k;
+          unknowns = halves (p .cells) (e .cells) (r .table .unknowns) (n .cells-up) (h .ends .full .unknowns-full) k;
+          positions = halves (p .cells) (e .cells) (r .table .positions) (n .cells-up) (h .ends .full .positions-full) k;
+          marks = halves (p .words) (e .words) (r .table .marks) (n .words-up) (h .ends .full .marks-full) k;
         })
-        (halves (p .cells) (e .cells) (r .packets) (n .cells-up) (h .packets-full) k)
+        (halves (p .cells) (e .cells) (r .packets) (n .cells-up) (h .ends .full .packets-full) k)
         (record {
-          keys = halves (p .keys) (e .keys) (r .list .keys) (n .keys-up) (h .keys-full) k;
-          counts = halves (p .records) (e .records) (r .list .counts) (n .records-up) (h .counts-full) k;
-          flags = halves (p .records) (e .records) (r .list .flags) (n .records-up) (h .flags-full) k;
+          keys = halves (p .keys) (e .keys) (r .list .keys) (n .keys-up) (h .ends .full .keys-full) k;
+          counts = halves (p .records) (e .records) (r .list .counts) (n .records-up) (h .ends .full .counts-full) k;
+          flags = halves (p .records) (e .records) (r .list .flags) (n .records-up) (h .ends .full .flags-full) k;
         })
-        (halves (p .seen) (e .seen) (r .seen) (n .seen-up) (h .seen-full) k));
+        (halves (p .seen) (e .seen) (r .seen) (n .seen-up) (h .ends .seen-full) k));
     stands-a = h .stands-a;
     stands-b = h .stands-b;
   }
 
   -- ---- what stands where both lie in the areas
-  pub lies-both : {a′ b′ : Side} {r′ : Areas} → Lies l (switchOf s) (switchOf t) p e (h .seam-is) place-ends a′ b′ r′
+  pub lies-both : {a′ b′ : Side} {r′ : Areas} → Lies l (switchOf s) (switchOf t) p e (h .ends .seam-is) (h .ends .end-is) a′ b′ r′
       → Both l s t p e (a′ .listed) (b′ .listed) r′
   unfolding joinedTable joinedList
   lies-both {a′} {b′} {r′} g =
-      let i = stands-long l (switchOf s) origin p a′ (h .seam-is) (g .stands-a) in
-      let j = stands-long l (switchOf t) p e b′ place-ends (g .stands-b) in
+      let i = stands-long l (switchOf s) origin p a′ (h .ends .seam-is) (g .stands-a) in
+      let j = stands-long l (switchOf t) p e b′ (h .ends .end-is) (g .stands-b) in
       let n = numbers in
       let full : (f : Areas → List ℕ) (u v : List ℕ) (x y : ℕ) → f (joinedSides a′ b′) ≡ u ++ v → length u ≡ x - 0 → length v ≡ y - x → x ≤ y
       → length (f r′) ≡ y = λ f u v x y q first second up.
       ap (λ (w : Areas). length (f w)) (g .is) ∙ ap length q ∙ length-append u v ∙ omega (arith, first, second, up) in
       record {
-        lays = h .lays;
-        ranged-a = h .ranged-a;
-        ranged-b = h .ranged-b;
-        seam-is = h .seam-is;
-        end-is = h .end-is;
-        xors-full = full (λ w. w .table .xors) (a′ .table .xors) (b′ .table .xors) (p .xors) (e .xors) refl (i .xors-long) (j .xors-long) (n .xors-up);
-        flows-full = full (λ w. w .table .flows) (a′ .table .flows) (b′ .table .flows) (p .cells) (e .cells) refl (i .flows-long) (j .flows-long) (n .cells-up);
-        unknowns-full = full (λ w. w .table .unknowns) (a′ .table .unknowns) (b′ .table .unknowns) (p .cells) (e .cells) refl (i .unknowns-long) (j .unknowns-long) (n .cells-up);
-        positions-full = full (λ w. w .table .positions) (a′ .table .positions) (b′ .table .positions) (p .cells) (e .cells) refl (i .positions-long) (j .positions-long) (n .cells-up);
-        marks-full = full (λ w. w .table .marks) (a′ .table .marks) (b′ .table .marks) (p .words) (e .words) refl (i .marks-long) (j .marks-long) (n .words-up);
-        packets-full = full (λ w. w .packets) (a′ .packets) (b′ .packets) (p .cells) (e .cells) refl (i .packets-long) (j .packets-long) (n .cells-up);
-        keys-full = full (λ w. w .list .keys) (a′ .list .keys) (b′ .list .keys) (p .keys) (e .keys) refl (i .keys-long) (j .keys-long) (n .keys-up);
-        counts-full = full (λ w. w .list .counts) (a′ .list .counts) (b′ .list .counts) (p .records) (e .records) refl (i .counts-long) (j .counts-long) (n .records-up);
-        flags-full = full (λ w. w .list .flags) (a′ .list .flags) (b′ .list .flags) (p .records) (e .records) refl (i .flags-long) (j .flags-long) (n .records-up);
-        seen-full = full (λ w. w .seen) (a′ .seen) (b′ .seen) (p .seen) (e .seen) refl (i .seen-long) (j .seen-long) (n .seen-up);
-        stands-a = subst (Stands l (switchOf s)) (sym (lies-a l (switchOf s) (switchOf t) p e (h .seam-is) place-ends g)) (g .stands-a);
-        stands-b = subst (Stands l (switchOf t)) (sym (lies-b l (switchOf s) (switchOf t) p e (h .seam-is) place-ends g)) (g .stands-b);
+        ends = record {
+          lays = h .ends .lays;
+          ranged-a = h .ends .ranged-a;
+          ranged-b = h .ends .ranged-b;
+          seam-is = h .ends .seam-is;
+          end-is = h .ends .end-is;
+          full = record {
+            xors-full = full (λ w. w .table .xors) (a′ .table .xors) (b′ .table .xors) (p .xors) (e .xors) refl (i .fills .xors-fill) (j .fills .xors-fill) (n .xors-up);
+            flows-full = full (λ w. w .table .flows) (a′ .table .flows) (b′ .table .flows) (p .cells) (e .cells) refl (i .fills .flows-fill) (j .fills .flows-fill) (n .cells-up);
+            unknowns-full = full (λ w. w .table .unknowns) (a′ .table .unknowns) (b′ .table .unknowns) (p .cells) (e .cells) refl (i .fills .unknowns-fill) (j .fills .unknowns-fill) (n .cells-up);
+            positions-full = full (λ w. w .table .positions) (a′ .table .positions) (b′ .table .positions) (p .cells) (e .cells) refl (i .fills .positions-fill) (j .fills .positions-fill) (n .cells-up);
+            marks-full = full (λ w. w .table .marks) (a′ .table .marks) (b′ .table .marks) (p .words) (e .words) refl (i .fills .marks-fill) (j .fills .marks-fill) (n .words-up);
+            packets-full = full (λ w. w .packets) (a′ .packets) (b′ .packets) (p .cells) (e .cells) refl (i .packets-fill) (j .packets-fill) (n .cells-up);
+            keys-full = full (λ w. w .list .keys) (a′ .list .keys) (b′ .list .keys) (p .keys) (e .keys) refl (i .fills .keys-fill) (j .fills .keys-fill) (n .keys-up);
+            counts-full = full (λ w. w .list .counts) (a′ .list .counts) (b′ .list .counts) (p .records) (e .records) refl (i .fills .counts-fill) (j .fills .counts-fill) (n .records-up);
+            flags-full = full (λ w. w .list .flags) (a′ .list .flags) (b′ .list .flags) (p .records) (e .records) refl (i .fills .flags-fill) (j .fills .flags-fill) (n .records-up);
+          };
+          seen-full = full (λ w. w .seen) (a′ .seen) (b′ .seen) (p .seen) (e .seen) refl (i .fills .seen-fill) (j .fills .seen-fill) (n .seen-up);
+        };
+        stands-a = subst (Stands l (switchOf s)) (sym (lies-a l (switchOf s) (switchOf t) p e (h .ends .seam-is) (h .ends .end-is) g)) (g .stands-a);
+        stands-b = subst (Stands l (switchOf t)) (sym (lies-b l (switchOf s) (switchOf t) p e (h .ends .seam-is) (h .ends .end-is) g)) (g .stands-b);
       }
 
-  pub lies-at : {a′ b′ : Side} {r′ : Areas} → Lies l (switchOf s) (switchOf t) p e (h .seam-is) place-ends a′ b′ r′ → {x y : ℕ} → x ≡ a′ .listed
+  pub lies-at : {a′ b′ : Side} {r′ : Areas} → Lies l (switchOf s) (switchOf t) p e (h .ends .seam-is) (h .ends .end-is) a′ b′ r′ → {x y : ℕ} → x ≡ a′ .listed
       → y ≡ b′ .listed → Both l s t p e x y r′
   lies-at {a′} {b′} {r′} g {x} i j =
       subst (λ m. Both l s t p e x m r′) (sym j) (subst (λ n. Both l s t p e n (b′ .listed) r′) (sym i) (lies-both g))

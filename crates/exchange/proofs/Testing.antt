@@ -6,8 +6,8 @@ use Prim.Native.Nat.{ℕ, _+_, _-_, _*_, _≤_}
 use native.Mathlib.Nat.{mul-le-mul}
 use native.Mathlib.Omega.{arith}
 use lib.Dec.{eqb}
-use lib.ListN.{length, take, drop, length-append, length-drop}
-use lib.Seq.{length-take-le}
+use lib.ListN.{length, take, drop, replicate, length-append, length-drop, length-replicate}
+use lib.Seq.{length-take-le, take-all}
 use Rattle.laws.proofs.Bools.{clash, and-i, and-f}
 use Rattle.layout.specs.declared.Layout.{Layout}
 use Rattle.layout.specs.declared.Sizes.{Sizes}
@@ -16,6 +16,9 @@ use Rattle.layout.proofs.Ranges.{ranged, table-high, cell-high}
 use Rattle.list.specs.Records.{Records, Room}
 use Rattle.peeling.specs.Table.{Fit}
 use Rattle.test8.specs.Test8.{overListed, isSession}
+use Rattle.index.specs.Index.{Empty}
+use Rattle.index.proofs.Index.{empty-zeros}
+use Rattle.laws.proofs.Lists.{part-zeros}
 use Rattle.test8.specs.Given.{seenUpto}
 use Rattle.test8.proofs.Answers as test8
 use Rattle.test8.proofs.Notes.{length-seen}
@@ -26,10 +29,10 @@ use Rattle.parts.specs.Areas.{Near, origin, placeAfter, between, laid, tableAt,
 use Rattle.parts.proofs.Areas.{length-between}
 use Rattle.exchange.specs.declared.Tested.{Tested}
 use Rattle.exchange.specs.declared.Tested.the-variants as tested
-use Rattle.exchange.specs.Exchange.{exchangeTest, areasFit, seam, roomEnd, roomA, roomB, seenIn}
+use Rattle.exchange.specs.Exchange.{exchangeTest, areasFit, seam, roomEnd, roomA, roomB, seenIn, Ends}
 use Rattle.exchange.proofs.Rooms.{FullRoom, areas-full, areas-rooms}
-use Rattle.exchange.proofs.Steps.{Ends, first-inside, second-inside}
-use Rattle.exchange.proofs.Call.{table-a, list-a, table-b, list-b, ends, first-bits, second-bits, second-there}
+use Rattle.exchange.proofs.Steps.{first-inside, second-inside}
+use Rattle.exchange.proofs.Call.{table-a, list-a, table-b, list-b, ends, first-index, second-index, second-there}
 use Rattle.exchange.proofs.Tests.{testOf, isPassed, tested-sizes, tested-room, tested-rest, tested-slot, tested-passed}
 
 -- no other answer is the one of a call that passes
@@ -91,7 +94,18 @@ module _ (l : Layout) (s t : Session) (m : Memory) (lays : Lays l) where
     pub room-bad : areasFit e m ≡ false → tested.BadRoom ≡ exchangeTest l s t m
     room-bad h = sym (tested-room l s t m sizes-both (ap (λ q. areasFit q m) (sym end-at) ∙ h))
 
-    module _ (fit : areasFit e m ≡ true) (seen : List ℕ) (long : length seen ≡ 512) where
+    module _ (fit : areasFit e m ≡ true) (seen : List ℕ) (zeros : seen ≡ replicate 22528 0) where
+      long : length seen ≡ 22528
+      long = ap length zeros ∙ length-replicate {A = ℕ} 22528 0
+
+      first-zeros : take 11264 seen ≡ replicate 11264 0
+      first-zeros = ap (take 11264) zeros ∙ part-zeros 22528 0 11264 (omega arith)
+
+      second-zeros : drop 11264 seen ≡ replicate 11264 0
+      second-zeros =
+          sym (take-all 11264 (drop 11264 seen) (omega (arith, length-drop 11264 seen, long)))
+          ∙ ap (λ s. take 11264 (drop 11264 s)) zeros ∙ part-zeros 22528 11264 11264 (omega arith)
+
       fits-there : areasFit (roomEnd l y z) m ≡ true
       fits-there = ap (λ q. areasFit q m) (sym end-at) ∙ fit
 
@@ -101,7 +115,7 @@ module _ (l : Layout) (s t : Session) (m : Memory) (lays : Lays l) where
       pub rooms-at : Rooms l y (roomA (seam l y) m) × Rooms l z (roomB (seam l y) m)
       rooms-at = areas-rooms l y z m lays (ranged y ry) (ranged z rz) fits-there
 
-      pub ends-at : (w : List ℕ) → length w ≡ 512 → Ends l y z p e (areas (m .table) (m .packets) (m .list) w)
+      pub ends-at : (w : List ℕ) → length w ≡ 22528 → Ends l y z p e (areas (m .table) (m .packets) (m .list) w)
       ends-at w q = ends p m e full-at l y z w lays (ranged y ry) (ranged z rz) seam-at ei q
 
       abbrev roomOfA : Memory
@@ -122,25 +136,28 @@ module _ (l : Layout) (s t : Session) (m : Memory) (lays : Lays l) where
       list-at-b : listAt p e (m .list) ≡ roomOfB .list
       list-at-b = list-b p m e full-at ∙ ap (λ q. roomB q m .list) seam-at
 
-      seam-bits : p .seen ≡ 256
+      seam-index : p .seen ≡ 11264
       unfolding placeAfter
-      seam-bits = omega (arith, ap (λ (q : Place). q .seen) seam-at)
+      seam-index = omega (arith, ap (λ (q : Place). q .seen) seam-at)
 
-      end-bits : e .seen ≡ 512
+      end-index : e .seen ≡ 22528
       unfolding placeAfter
-      end-bits = omega (arith, ap (λ (q : Place). q .seen) ei, seam-bits)
+      end-index = omega (arith, ap (λ (q : Place). q .seen) ei, seam-index)
 
       none : o .seen ≡ 0
       none = ap (λ (q : Place). q .seen) oi
 
+      first-half : between (o .seen) (p .seen) seen ≡ take 11264 seen
+      first-half = ap₂ (λ i j. between i j seen) none seam-index
+
       -- what the test of A needs
       pub need-a : Inside o p (m .table) (m .list) seen × Fit l y (tableAt o p (m .table)) × Room l (2 * tableCells l y) (listAt o p (m .list))
-          × (length (between (o .seen) (p .seen) seen) ≡ 256)
+          × Empty (between (o .seen) (p .seen) seen)
       need-a = (
         subst (λ q. Inside q p (m .table) (m .list) seen) (sym oi) (first-inside (ends-at seen long)),
         subst (Fit l y) (sym table-at-a) (rooms-at .0 .table),
         subst (Room l (2 * tableCells l y)) (sym list-at-a) (rooms-at .0 .room),
-        length-between (o .seen) (p .seen) seen (omega (arith, none)) (omega (arith, seam-bits, long)) ∙ omega (arith, none, seam-bits),
+        subst Empty (sym (first-half ∙ first-zeros)) empty-zeros,
       )
 
       is-a : {r : Bool} → r ≡ isSession l y (s .salt) (s .listed) (tableAt o p (m .table)) (listAt o p (m .list)) → r ≡ testOf l s roomOfA
@@ -159,43 +176,42 @@ module _ (l : Layout) (s t : Session) (m : Memory) (lays : Lays l) where
         yes-a : testOf l s roomOfA ≡ true
         yes-a = sym (is-a qa) ∙ ha
 
-        first-half : between (o .seen) (p .seen) seen ≡ take 256 seen
-        first-half =
-            ap₂ (λ i j. between i j seen) none seam-bits
-
         keys-a : between (o .keys) (p .keys) (m .list .keys) ≡ roomOfA .list .keys
         unfolding listAt
         keys-a = ap (λ (x : Records). x .keys) list-at-a
 
-        abbrev bitsA : List ℕ
-        bitsA = seenIn l s roomOfA (take 256 seen)
+        abbrev indexA : List ℕ
+        indexA = seenIn l s roomOfA (take 11264 seen)
 
-        bits-a : seenUpto l y (s .salt) (cond (overListed l y (s .listed)) 0 (s .listed)) (between (o .keys) (p .keys) (m .list .keys))
+        index-a : seenUpto l y (s .salt) (cond (overListed l y (s .listed)) 0 (s .listed)) (between (o .keys) (p .keys) (m .list .keys))
             (between (o .seen) (p .seen) seen)
-            ≡ bitsA
-        bits-a =
+            ≡ indexA
+        index-a =
             ap₂ (λ k v. seenUpto l y (s .salt) (cond (overListed l y (s .listed)) 0 (s .listed)) k v) keys-a first-half
-            ∙ ap (λ b. seenUpto l y (s .salt) (cond b 0 (s .listed)) (roomOfA .list .keys) (take 256 seen))
+            ∙ ap (λ b. seenUpto l y (s .salt) (cond b 0 (s .listed)) (roomOfA .list .keys) (take 11264 seen))
             (test8.passed l y (s .salt) (s .listed) (roomOfA .table) (roomOfA .list) yes-a .listed-in)
 
-        length-a : length bitsA ≡ 256
-        length-a = length-seen l y (s .salt) (roomOfA .list .keys) (take 256 seen) (s .listed) ∙ length-take-le 256 seen (omega (arith, long))
+        length-a : length indexA ≡ 11264
+        length-a = length-seen l y (s .salt) (roomOfA .list .keys) (take 11264 seen) (s .listed) ∙ length-take-le 11264 seen (omega (arith, long))
 
-        after-a : seen₁ ≡ bitsA ++ drop 256 seen
+        after-a : seen₁ ≡ indexA ++ drop 11264 seen
         after-a =
-            w ∙ ap (laid (o .seen) (p .seen) seen) bits-a ∙ ap₂ (λ i j. laid i j seen bitsA) none seam-bits ∙ first-bits bitsA seen [] long length-a
+            w ∙ ap (laid (o .seen) (p .seen) seen) index-a ∙ ap₂ (λ i j. laid i j seen indexA) none seam-index ∙ first-index indexA seen [] long length-a
 
-        long-a : length seen₁ ≡ 512
-        long-a = ap length after-a ∙ length-append bitsA (drop 256 seen) ∙ omega (arith, length-a, length-drop 256 seen, long)
+        long-a : length seen₁ ≡ 22528
+        long-a = ap length after-a ∙ length-append indexA (drop 11264 seen) ∙ omega (arith, length-a, length-drop 11264 seen, long)
+
+        second-half : between (p .seen) (e .seen) seen₁ ≡ drop 11264 seen
+        second-half = (λ k. between (seam-index k) (end-index k) (after-a k)) ∙ second-there indexA seen [] long length-a
 
         -- what the test of B needs
         pub need-b : Inside p e (m .table) (m .list) seen₁ × Fit l z (tableAt p e (m .table)) × Room l (2 * tableCells l z) (listAt p e (m .list))
-            × (length (between (p .seen) (e .seen) seen₁) ≡ 256)
+            × Empty (between (p .seen) (e .seen) seen₁)
         need-b = (
           second-inside (ends-at seen₁ long-a),
           subst (Fit l z) (sym table-at-b) (rooms-at .1 .table),
           subst (Room l (2 * tableCells l z)) (sym list-at-b) (rooms-at .1 .room),
-          length-between (p .seen) (e .seen) seen₁ (omega (arith, seam-bits, end-bits)) (omega (arith, end-bits, long-a)) ∙ omega (arith, seam-bits, end-bits),
+          subst Empty (sym (second-half ∙ second-zeros)) empty-zeros,
         )
 
         module _ {rb : Bool} (qb : rb ≡ isSession l z (t .salt) (t .listed) (tableAt p e (m .table)) (listAt p e (m .list))) where
@@ -219,20 +235,18 @@ module _ (l : Layout) (s t : Session) (m : Memory) (lays : Lays l) where
             unfolding listAt
             keys-b = ap (λ (x : Records). x .keys) list-at-b
 
-            second-half : between (p .seen) (e .seen) seen₁ ≡ drop 256 seen
-            second-half = (λ k. between (seam-bits k) (end-bits k) (after-a k)) ∙ second-there bitsA seen [] long length-a
-
-            pub bits-both : {seen₂ : List ℕ}
+            pub index-both : {seen₂ : List ℕ}
                 → seen₂ ≡ laid (p .seen) (e .seen) seen₁ (seenUpto l z (t .salt) (cond (overListed l z (t .listed)) 0 (t .listed))
                 (between (p .keys) (e .keys) (m .list .keys)) (between (p .seen) (e .seen) seen₁))
-                → seen₂ ≡ seenIn l s roomOfA (take 256 seen) ++ seenIn l t roomOfB (drop 256 seen)
-            bits-both q =
+                → seen₂ ≡ seenIn l s roomOfA (replicate 11264 0) ++ seenIn l t roomOfB (replicate 11264 0)
+            index-both q =
                 let new : seenUpto l z (t .salt) (cond (overListed l z (t .listed)) 0 (t .listed)) (between (p .keys) (e .keys) (m .list .keys))
                 (between (p .seen) (e .seen) seen₁)
-                ≡ seenIn l t roomOfB (drop 256 seen) =
+                ≡ seenIn l t roomOfB (drop 11264 seen) =
                 ap₂ (λ k v. seenUpto l z (t .salt) (cond (overListed l z (t .listed)) 0 (t .listed)) k v) keys-b second-half
-                ∙ ap (λ b. seenUpto l z (t .salt) (cond b 0 (t .listed)) (roomOfB .list .keys) (drop 256 seen))
+                ∙ ap (λ b. seenUpto l z (t .salt) (cond b 0 (t .listed)) (roomOfB .list .keys) (drop 11264 seen))
                 (test8.passed l z (t .salt) (t .listed) (roomOfB .table) (roomOfB .list) yes-b .listed-in) in
                 q ∙ ap (laid (p .seen) (e .seen) seen₁) new
-                ∙ (λ k. laid (seam-bits k) (end-bits k) (after-a k) (seenIn l t roomOfB (drop 256 seen)))
-                ∙ second-bits bitsA seen (seenIn l t roomOfB (drop 256 seen)) long length-a
+                ∙ (λ k. laid (seam-index k) (end-index k) (after-a k) (seenIn l t roomOfB (drop 11264 seen)))
+                ∙ second-index indexA seen (seenIn l t roomOfB (drop 11264 seen)) long length-a
+                ∙ ap₂ (λ u v. seenIn l s roomOfA u ++ seenIn l t roomOfB v) first-zeros second-zeros

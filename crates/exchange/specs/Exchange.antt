@@ -193,12 +193,12 @@ answerOf (end.DamagedB c) a b twelves = exchanged.DamagedB c a b twelves
 abbrev pub switchOf : Session → Switch
 switchOf s = switch (s .sizes) (s .salt)
 
--- a session that passed the test, with a bit for each listed key
+-- a session that passed the test, with each listed key in its index
 abbrev pub seenIn : Layout → Session → Memory → List ℕ → List ℕ
 seenIn l s m seen = seenUpto l (s .sizes) (s .salt) (s .listed) (m .list .keys) seen
 
 abbrev pub sideOf : Layout → Session → Memory → Side
-sideOf l s m = side (s .listed) (m .table) (m .packets) (m .list) (seenIn l s m (replicate 256 0))
+sideOf l s m = side (s .listed) (m .table) (m .packets) (m .list) (seenIn l s m (replicate 11264 0))
 
 abbrev pub roomLeft : Memory → Side → Memory
 roomLeft m s = memory (m .filter) (s .table) (s .packets) (s .list)
@@ -243,22 +243,31 @@ exchangeNumber exchanged.NotSession = 8
 exchangeNumber exchanged.OtherSlot = 15
 exchangeNumber exchanged.BadRoom = 16
 
--- ---- what the code needs: the areas end where B's part does, and both sessions have their room
-pub record Both (l : Layout) (s t : Session) (p e : Place) (a b : ℕ) (r : Areas) : Type 0 where
+-- ---- what the code needs
+-- areas of the lengths that a place gives
+pub record Full (e : Place) (t : Tab) (packets : List ℕ) (rs : Records) : Type 0 where
+  pub xors-full : length (t .xors) ≡ e .xors
+  pub flows-full : length (t .flows) ≡ e .cells
+  pub unknowns-full : length (t .unknowns) ≡ e .cells
+  pub positions-full : length (t .positions) ≡ e .cells
+  pub marks-full : length (t .marks) ≡ e .words
+  pub packets-full : length packets ≡ e .cells
+  pub keys-full : length (rs .keys) ≡ e .keys
+  pub counts-full : length (rs .counts) ≡ e .records
+  pub flags-full : length (rs .flags) ≡ e .records
+
+-- two sessions of sizes y and z meet at p, and the areas end with the second, at e
+pub record Ends (l : Layout) (y z : Sizes) (p e : Place) (r : Areas) : Type 0 where
   pub lays : Lays l
-  pub ranged-a : Ranged (s .sizes)
-  pub ranged-b : Ranged (t .sizes)
-  pub seam-is : p ≡ seam l (s .sizes)
-  pub end-is : e ≡ roomEnd l (s .sizes) (t .sizes)
-  pub xors-full : length (r .table .xors) ≡ e .xors
-  pub flows-full : length (r .table .flows) ≡ e .cells
-  pub unknowns-full : length (r .table .unknowns) ≡ e .cells
-  pub positions-full : length (r .table .positions) ≡ e .cells
-  pub marks-full : length (r .table .marks) ≡ e .words
-  pub packets-full : length (r .packets) ≡ e .cells
-  pub keys-full : length (r .list .keys) ≡ e .keys
-  pub counts-full : length (r .list .counts) ≡ e .records
-  pub flags-full : length (r .list .flags) ≡ e .records
+  pub ranged-a : Ranged y
+  pub ranged-b : Ranged z
+  pub seam-is : p ≡ seam l y
+  pub end-is : e ≡ placeAfter l z p
+  pub full : Full e (r .table) (r .packets) (r .list)
   pub seen-full : length (r .seen) ≡ e .seen
+
+-- and both have their room
+pub record Both (l : Layout) (s t : Session) (p e : Place) (a b : ℕ) (r : Areas) : Type 0 where
+  pub ends : Ends l (s .sizes) (t .sizes) p e r
   pub stands-a : Stands l (switchOf s) (partAt origin p a r)
   pub stands-b : Stands l (switchOf t) (partAt p e b r)

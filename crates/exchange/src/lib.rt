@@ -3,7 +3,7 @@
 ghost use mathlib.Core.List.{_++_};
 ghost use mathlib.Core.Path.{_≡_};
 ghost use Prim.Native.Nat.{_+_, _*_, _≤_};
-ghost use lib.ListN.{length, take, drop};
+ghost use lib.ListN.{length, replicate};
 ghost use Rattle.layout.specs.Sizes.{Lays, ipv4Layout};
 ghost use Rattle.list.specs.Records.{records};
 ghost use Rattle.peeling.specs.Table.{tab};
@@ -164,7 +164,7 @@ fn settle_both(
     keys: &mut [u8],
     counts: &mut [u32],
     flags: &mut [u8],
-    seen: &mut [u64],
+    seen: &mut [u16],
 ) -> Round
     requires { ⌜ Both l s t p e a b (areas (tab (now xors) (now flows) (now unknowns) (now positions) (now marks)) (now packets)
         (records (now keys) (now counts) (now flags)) (now seen)) ⌝ }
@@ -235,7 +235,7 @@ fn one_round(
     keys: &mut [u8],
     counts: &mut [u32],
     flags: &mut [u8],
-    seen: &mut [u64],
+    seen: &mut [u16],
 ) -> Round
     requires { ⌜ Both l s t p e a b (areas (tab (now xors) (now flows) (now unknowns) (now positions) (now marks)) (now packets)
         (records (now keys) (now counts) (now flags)) (now seen)) × (length (now filter) ≡ e .filter) × (twelves ≤ 1073741824) ⌝ }
@@ -341,7 +341,7 @@ fn all_rounds(
     keys: &mut [u8],
     counts: &mut [u32],
     flags: &mut [u8],
-    seen: &mut [u64],
+    seen: &mut [u16],
 ) -> Round
     requires { ⌜ Both l s t p e a b (areas (tab (now xors) (now flows) (now unknowns) (now positions) (now marks)) (now packets)
         (records (now keys) (now counts) (now flags)) (now seen)) × (length (now filter) ≡ e .filter) × (most ≤ 6145) ⌝ }
@@ -405,7 +405,7 @@ fn exchange_sides(
     keys: &mut [u8],
     counts: &mut [u32],
     flags: &mut [u8],
-    seen: &mut [u64],
+    seen: &mut [u16],
 ) -> Round
     requires { ⌜ Both l s t p e (s .listed) (t .listed) (areas (tab (now xors) (now flows) (now unknowns) (now positions) (now marks)) (now packets)
         (records (now keys) (now counts) (now flags)) (now seen)) × (length (now filter) ≡ e .filter) ⌝ }
@@ -520,7 +520,7 @@ fn areas_fit(
     flags.len() == e.records
 }
 
-// The tests of the call. Where all are passed, the bitmaps have got a bit for each listed key.
+// The tests of the call. Where all are passed, the indexes have got each listed key.
 fn test(
     l: Layout,
     s: Session,
@@ -535,18 +535,18 @@ fn test(
     keys: &[u8],
     counts: &[u32],
     flags: &[u8],
-    seen: &mut [u64],
+    seen: &mut [u16],
 ) -> Tested
-    requires { ⌜ Lays l × (length (now seen) ≡ 512) ⌝ }
+    requires { ⌜ Lays l × (now seen ≡ replicate 22528 0) ⌝ }
     ensures { λ r. ⌜ (r ≡ exchangeTest l s t (memory (now (filter .entry))
         (tab (now (xors .entry)) (now (flows .entry)) (now (unknowns .entry)) (now (positions .entry)) (now (marks .entry)))
         (now (packets .entry)) (records (now (keys .entry)) (now (counts .entry)) (now (flags .entry)))))
         × (r ≡ tests.Passed → now (seen .exit) ≡ seenIn l s (roomA (seam l (s .sizes)) (memory (now (filter .entry))
         (tab (now (xors .entry)) (now (flows .entry)) (now (unknowns .entry)) (now (positions .entry)) (now (marks .entry)))
-        (now (packets .entry)) (records (now (keys .entry)) (now (counts .entry)) (now (flags .entry))))) (take 256 (now (seen .entry)))
+        (now (packets .entry)) (records (now (keys .entry)) (now (counts .entry)) (now (flags .entry))))) (replicate 11264 0)
         ++ seenIn l t (roomB (seam l (s .sizes)) (memory (now (filter .entry))
         (tab (now (xors .entry)) (now (flows .entry)) (now (unknowns .entry)) (now (positions .entry)) (now (marks .entry)))
-        (now (packets .entry)) (records (now (keys .entry)) (now (counts .entry)) (now (flags .entry))))) (drop 256 (now (seen .entry)))) ⌝ }
+        (now (packets .entry)) (records (now (keys .entry)) (now (counts .entry)) (now (flags .entry))))) (replicate 11264 0)) ⌝ }
 {
     let y = s.sizes;
     let z = t.sizes;
@@ -679,7 +679,7 @@ pub fn exchange_in(
         (tab (now (xors .entry)) (now (flows .entry)) (now (unknowns .entry)) (now (positions .entry)) (now (marks .entry)))
         (now (packets .entry)) (records (now (keys .entry)) (now (counts .entry)) (now (flags .entry)))) ⌝ }
 {
-    let mut seen = [0u64; 512];
+    let mut seen = [0u16; 22528];
     match test(
         l,
         s,

@@ -17,7 +17,7 @@ use Rattle.follows.specs.Calls.{Held, asLive, Call, handing, settling, a
 use Rattle.follows.proofs.Kept.{settle-follows, hand-follows, settle-bytes, hand-bytes}
 
 -- one call over records is the call over numbers, and leaves bytes
-call-follows : (a : Call) (v : Held) → Bytes (v .room .table .xors) → asLive (callOn a v) ≡ numbers.callOn ipv4Layout (asCall a) (asLive v)
+pub call-follows : (a : Call) (v : Held) → Bytes (v .room .table .xors) → asLive (callOn a v) ≡ numbers.callOn ipv4Layout (asCall a) (asLive v)
 unfolding callOn numbers.callOn overRecords
 call-follows (handing key) v h =
     let s = v .numbers in

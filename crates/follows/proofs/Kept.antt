@@ -90,7 +90,7 @@ sound-counted m i v rs s = record {
     ]
 
 -- ---- FlowXOR stays bytes where a key is taken out
-xor-bytes : (xors : List ℕ) (c : ℕ) → Bytes xors → Bytes (keyAt ipv4Layout xors c)
+pub xor-bytes : (xors : List ℕ) (c : ℕ) → Bytes xors → Bytes (keyAt ipv4Layout xors c)
 unfolding keyAt
 xor-bytes xors c h = bytes-take 13 (drop (c * 13) xors) (bytes-drop (c * 13) xors h)
 
@@ -102,7 +102,7 @@ taken-bytes z salt key n t k h =
     bytes-sets (xorBytes (keyAt ipv4Layout (y .xors) c) key) (y .xors) (c * 13) q (bytes-xor (keyAt ipv4Layout (y .xors) c) key (xor-bytes (y .xors) c q) k))
 
 -- FlowXOR are bytes, and the list is what m records can be
-abbrev Keep : ℕ → Tab → Records → Type 0
+abbrev pub Keep : ℕ → Tab → Records → Type 0
 Keep m t rs = Bytes (t .xors) × Sound m rs
 
 -- ---- settling
@@ -178,10 +178,25 @@ module _ (m : ℕ) (z : Sizes) (salt : ℕ) where
   then-keeps packets t rs seen (stop.Full n c) h = h
   then-keeps packets t rs seen (stop.Damaged n c) h = h
 
-  settled-keeps : (n : ℕ) (t : Tab) (packets : List ℕ) (rs : Records) (seen : List ℕ) → Keeps t rs
+  pub settled-keeps : (n : ℕ) (t : Tab) (packets : List ℕ) (rs : Records) (seen : List ℕ) → Keeps t rs
       → Keeps (settling.settleOf ipv4Layout z salt n t packets rs seen .table) (settling.settleOf ipv4Layout z salt n t packets rs seen .list)
   unfolding settling.settleOf peeling.peelsOf
   settled-keeps n t packets rs seen h = then-keeps packets _ _ _ _ (peels-keep _ n t rs seen h)
+
+  -- ---- hand-over
+  answer-keeps : (n : ℕ) (key : List ℕ) (t : Tab) (rs : Records) (seen : List ℕ) (a : Handed) → Bytes key → Keeps t rs
+      → Keeps (handing.afterAnswer ipv4Layout z salt n key t rs seen a .table) (handing.afterAnswer ipv4Layout z salt n key t rs seen a .list)
+  unfolding handing.afterAnswer
+  answer-keeps n key t rs seen hand.Taken k h = (taken-bytes z salt key n t k (h .0), sound-appended m n key 2 rs k (omega arith) (h .1))
+  answer-keeps n key t rs seen hand.NotInFilter k h = h
+  answer-keeps n key t rs seen hand.Listed k h = h
+  answer-keeps n key t rs seen hand.EmptyCell k h = h
+  answer-keeps n key t rs seen hand.TooMany k h = h
+
+  pub handed-keeps : (n : ℕ) (key filter : List ℕ) (t : Tab) (rs : Records) (seen : List ℕ) → Bytes key → Keeps t rs
+      → Keeps (handing.handOf ipv4Layout z salt n key filter t rs seen .table) (handing.handOf ipv4Layout z salt n key filter t rs seen .list)
+  unfolding handing.handOf
+  handed-keeps n key filter t rs seen k h = answer-keeps n key t rs seen _ k h
 
 -- ---- what each call leaves is what a list can be
 module _ (m : Memory) (n : ℕ) (sound : Sound n (m .list)) where
@@ -207,21 +222,11 @@ module _ (m : Memory) (n : ℕ) (sound : Sound n (m .list)) where
       tested-sound (λ (x : session.Settling). Kept (x .room)) s _ _ _ (h, sound) (h, sound)
       (settled-keeps n (s .sizes) (s .salt) (s .listed) (m .table) (m .packets) (m .list) _ (h, sound))
 
-  answer-keeps : (s : Session) (key : List ℕ) (seen : List ℕ) (a : Handed) → Bytes key → Bytes (m .table .xors)
-      → Keep n (handing.afterAnswer ipv4Layout (s .sizes) (s .salt) (s .listed) key (m .table) (m .list) seen a .table)
-      (handing.afterAnswer ipv4Layout (s .sizes) (s .salt) (s .listed) key (m .table) (m .list) seen a .list)
-  unfolding handing.afterAnswer
-  answer-keeps s key seen hand.Taken k h =
-      (taken-bytes (s .sizes) (s .salt) key (s .listed) (m .table) k h, sound-appended n (s .listed) key 2 (m .list) k (omega arith) sound)
-  answer-keeps s key seen hand.NotInFilter k h = (h, sound)
-  answer-keeps s key seen hand.Listed k h = (h, sound)
-  answer-keeps s key seen hand.EmptyCell k h = (h, sound)
-  answer-keeps s key seen hand.TooMany k h = (h, sound)
-
   hand-keeps : (s : Session) (key : Key) → Bytes (m .table .xors) → Kept (session.handOver ipv4Layout s (keyBytes key) m .room)
-  unfolding session.handOver handing.handOf
+  unfolding session.handOver
   hand-keeps s key h =
-      tested-sound (λ (x : session.Handing). Kept (x .room)) s _ _ _ (h, sound) (h, sound) (answer-keeps s (keyBytes key) _ _ (key-are-bytes key) h)
+      tested-sound (λ (x : session.Handing). Kept (x .room)) s _ _ _ (h, sound) (h, sound)
+      (handed-keeps n (s .sizes) (s .salt) (s .listed) (keyBytes key) (m .filter) (m .table) (m .list) _ (key-are-bytes key) (h, sound))
 
   -- the list that opening leaves: as it was, or cleared
   cleared : (z : Sizes) (salt : ℕ) (image : List ℕ) → Sound (2 * tableCells ipv4Layout z) (opens.openedMemory ipv4Layout z salt image .list)
@@ -252,6 +257,9 @@ module _ (m : Memory) (n : ℕ) (sound : Sound n (m .list)) where
   open-sound image slot = read-sound image slot (readOf ipv4Layout image slot)
 
 -- ---- so the next call over records sees what the call over numbers left
+pub back : (k : ℕ) (out : Memory) → Sound k (out .list) → calls.asNumbers (calls.asRecords out) ≡ out
+back k out s = ap (λ rs. memory (out .filter) (out .table) (out .packets) rs) (apart-together k (out .list) s)
+
 module _ (m : calls.Lent) where
   abbrev n : ℕ
   n = length (m .list)
@@ -261,9 +269,6 @@ module _ (m : calls.Lent) where
 
   abbrev here : Sound n (apart (m .list))
   here = apart-sound (m .list)
-
-  back : (k : ℕ) (out : Memory) → Sound k (out .list) → calls.asNumbers (calls.asRecords out) ≡ out
-  back k out s = ap (λ rs. memory (out .filter) (out .table) (out .packets) rs) (apart-together k (out .list) s)
 
   module _ (bytes : Bytes (m .table .xors)) where
     pub settle-follows : (s : Session) → calls.asNumbers (calls.settleRecords s m .room) ≡ session.settleOf ipv4Layout s numbers .room

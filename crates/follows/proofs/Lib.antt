@@ -2,3 +2,6 @@
 pub mod Kept
 pub mod Opened
 pub mod Demands
+pub mod Sides
+pub mod Joined
+pub mod Joint

@@ -1,2 +1,3 @@
 -- What the theorems over records cite.
 pub mod Calls
+pub mod Exchanges

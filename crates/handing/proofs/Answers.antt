@@ -17,9 +17,9 @@ use Rattle.hash.specs.Places.{cellOf, bitsOf}
 use Rattle.filter.specs.Filter.{anyClear, isNew}
 use Rattle.filter.proofs.Held.{clear-new}
 use Rattle.list.specs.Records.{Records, isListed, appended}
-use Rattle.marks.specs.Marks.{putMark}
+use Rattle.index.specs.Index.{linked}
 use Rattle.peeling.specs.Table.{Tab, anyEmpty, hasEmpty, takenOut}
-use Rattle.peeling.specs.Seen.{seenBit, seenBitOf}
+use Rattle.peeling.specs.Seen.{bucket, bucketOf}
 use Rattle.peeling.proofs.Table.{empty-is}
 use Rattle.test8.specs.Test8.{handedIn}
 use Rattle.handing.specs.Hand.{answerOf, handing, afterAnswer, handOf, handNumber, Hands}
@@ -88,13 +88,13 @@ module _ (l : Layout) (z : Sizes) (salt n : ℕ) (key filter : List ℕ) (t : Ta
     pub hand-other : OneOf (1 ∷ 2 ∷ 3 ∷ 4 ∷ []) (tagOf answers.the-type a) → handing a t rs seen ≡ handOf l z salt n key filter t rs seen
     hand-other o = sym (after-kept a (other-number a o)) ∙ after-is
 
-    pub hand-taken : {at : List ℕ} {t′ : Tab} {rs′ : Records} {seen′ : List ℕ} {bit : ℕ} → a ≡ Taken → at ≡ listUpto 4 (cellOf l z salt key)
-        → rs′ ≡ appended l n key 2 rs → bit ≡ seenBit at → seen′ ≡ putMark seen bit true → t′ ≡ takenOut l z salt key n t
+    pub hand-taken : {at : List ℕ} {t′ : Tab} {rs′ : Records} {seen′ : List ℕ} {own : ℕ} → a ≡ Taken → at ≡ listUpto 4 (cellOf l z salt key)
+        → rs′ ≡ appended l n key 2 rs → own ≡ bucket at → seen′ ≡ linked seen own n → t′ ≡ takenOut l z salt key n t
         → handing a t′ rs′ seen′ ≡ handOf l z salt n key filter t rs seen
     unfolding afterAnswer
-    hand-taken {at} {t′} {rs′} {seen′} {bit} q u v w x y =
-        let bit-is : bit ≡ seenBitOf l z salt key = w ∙ ap seenBit u in
-        let seen-is : seen′ ≡ putMark seen (seenBitOf l z salt key) true = x ∙ ap (λ m. putMark seen m true) bit-is in
+    hand-taken {at} {t′} {rs′} {seen′} {own} q u v w x y =
+        let own-is : own ≡ bucketOf l z salt key = w ∙ ap bucket u in
+        let seen-is : seen′ ≡ linked seen (bucketOf l z salt key) n = x ∙ ap (λ m. linked seen m n) own-is in
         ap₂ (λ p m. handing p m rs′ seen′) q y ∙ ap₂ (λ m o. handing Taken (takenOut l z salt key n t) m o) v seen-is ∙ (rw q at after-is)
 
 -- ---- what the answer Taken says

@@ -4,6 +4,7 @@ use mathlib.Core.Bool.{Bool, true, cond}
 use mathlib.Core.List.{List}
 use Prim.Native.Nat.{ℕ, _+_, _*_, _<_}
 use native.Mathlib.Omega.{arith}
+use Rattle.layout.proofs.Ranges.{table-high}
 use lib.Dec.{eqb}
 use lib.ListN.{length, getD, set}
 use lib.Seq.{getD-set-same, getD-set-other}
@@ -14,9 +15,9 @@ use Rattle.layout.specs.declared.Sizes.{Sizes}
 use Rattle.layout.specs.Sizes.{tableCells}
 use Rattle.list.specs.Records.{Records, isHanded, appended}
 use Rattle.list.proofs.Laws.{key-inside, room-appended}
-use Rattle.marks.specs.Marks.{putMark}
+use Rattle.index.specs.Index.{linked}
 use Rattle.peeling.specs.Table.{Tab, takenOut}
-use Rattle.peeling.specs.Seen.{seenBitOf}
+use Rattle.peeling.specs.Seen.{bucketOf}
 use Rattle.peeling.specs.Peel.{Fits}
 use Rattle.peeling.proofs.Table.{fit-out}
 use Rattle.peeling.proofs.Seen.{covers-more}
@@ -39,13 +40,14 @@ after-answer l z salt n key t rs seen TooMany = refl
 -- all fits where a key was taken out and appended
 fits-taken : (l : Layout) (z : Sizes) (salt n : ℕ) (key : List ℕ) (t : Tab) (rs : Records) (seen : List ℕ) → Fits l z salt n t rs seen
     → length key ≡ l .key → n < 2 * tableCells l z
-    → Fits l z salt (n + 1) (takenOut l z salt key n t) (appended l n key 2 rs) (putMark seen (seenBitOf l z salt key) true)
+    → Fits l z salt (n + 1) (takenOut l z salt key n t) (appended l n key 2 rs) (linked seen (bucketOf l z salt key) n)
 unfolding appended
 fits-taken l z salt n key t rs seen f k h = record {
   table = fit-out l z salt key n t (f .table);
   room = room-appended l (2 * tableCells l z) n key 2 rs (f .room);
   listed = omega arith;
-  covers = covers-more l z salt n (rs .keys) seen (f .covers) key k (key-inside n (f .room) h);
+  covers = covers-more l z salt n (rs .keys) seen (f .covers) key (omega (arith, h, table-high l z (f .table .lays) (f .table .ranged))) k
+      (key-inside n (f .room) h);
 }
 
 -- the flows handed over, where one more is appended so
@@ -81,7 +83,7 @@ module _ (l : Layout) (z : Sizes) (salt n : ℕ) (key filter : List ℕ) (t : Ta
 
   module _ {handed : ℕ} (h : Hands l z salt n handed key filter t rs seen) (q : r ≡ Taken) where
     taken-is : handing Taken t′ rs′ seen′
-        ≡ handing Taken (takenOut l z salt key n t) (appended l n key 2 rs) (putMark seen (seenBitOf l z salt key) true)
+        ≡ handing Taken (takenOut l z salt key n t) (appended l n key 2 rs) (linked seen (bucketOf l z salt key) n)
     unfolding afterAnswer
     taken-is = (rw q at after-it)
 

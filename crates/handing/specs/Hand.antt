@@ -10,9 +10,9 @@ use Rattle.layout.specs.declared.Sizes.{Sizes}
 use Rattle.layout.specs.Sizes.{tableCells, filterBytes}
 use Rattle.filter.specs.Filter.{isNew}
 use Rattle.list.specs.Records.{Records, isListed, appended}
-use Rattle.marks.specs.Marks.{putMark}
+use Rattle.index.specs.Index.{linked}
 use Rattle.peeling.specs.Table.{Tab, hasEmpty, takenOut}
-use Rattle.peeling.specs.Seen.{seenBitOf}
+use Rattle.peeling.specs.Seen.{bucketOf}
 use Rattle.peeling.specs.Peel.{Fits}
 use Rattle.test8.specs.Test8.{handedIn}
 use Rattle.handing.specs.declared.Handed.{Handed}
@@ -27,7 +27,7 @@ answerOf l z salt n handed filter flows keys key =
     (cond (hasEmpty l z salt flows key) EmptyCell
     (cond (leb (tableCells l z) handed) TooMany Taken)))
 
--- what a hand-over answers and leaves; the bitmap of the listed flows goes with the list
+-- what a hand-over answers and leaves; the index of the listed flows goes with the list
 pub record Handing : Type 0 where
   pub answer : Handed
   pub table : Tab
@@ -40,7 +40,7 @@ handing answer t rs seen = record { answer = answer; table = t; list = rs; seen 
 -- 01's table of numbers, 8 to 12: "all memory kept"; else the key is taken out and appended, as handed over
 unfoldable pub afterAnswer : Layout → Sizes → ℕ → ℕ → List ℕ → Tab → Records → List ℕ → Handed → Handing
 afterAnswer l z salt n key t rs seen Taken =
-    handing Taken (takenOut l z salt key n t) (appended l n key 2 rs) (putMark seen (seenBitOf l z salt key) true)
+    handing Taken (takenOut l z salt key n t) (appended l n key 2 rs) (linked seen (bucketOf l z salt key) n)
 afterAnswer l z salt n key t rs seen NotInFilter = handing NotInFilter t rs seen
 afterAnswer l z salt n key t rs seen Listed = handing Listed t rs seen
 afterAnswer l z salt n key t rs seen EmptyCell = handing EmptyCell t rs seen
@@ -58,7 +58,7 @@ handNumber Listed = 10
 handNumber EmptyCell = 11
 handNumber TooMany = 12
 
--- what a hand-over needs: the session's room and bitmap; the filter's length; the number handed over; and room for one more record
+-- what a hand-over needs: the session's room and index; the filter's length; the number handed over; and room for one more record
 -- while fewer than N were handed over, as the test of 8 has it
 pub record Hands (l : Layout) (z : Sizes) (salt n handed : ℕ) (key filter : List ℕ) (t : Tab) (rs : Records) (seen : List ℕ) : Type 0 where
   pub fits : Fits l z salt n t rs seen

@@ -34,11 +34,11 @@ fn answer(
     filter: &[u8],
     flows: &[u16],
     keys: &[u8],
-    seen: &[u64],
+    seen: &[u16],
 ) -> Handed
     requires { ⌜ Lays l × Ranged z × (at .at ≡ listUpto 4 (cellOf l z salt (now key))) × (length (now key) ≡ l .key)
         × (length (now filter) ≡ filterBytes z) × (length (now flows) ≡ tableCells l z) × (n * l .key ≤ length (now keys))
-        × Covers l z salt n (now keys) (now seen) ⌝ }
+        × (n ≤ 3072) × Covers l z salt n (now keys) (now seen) ⌝ }
     ensures { λ r. ⌜ r ≡ answerOf l z salt n handed (now (filter .entry)) (now (flows .entry)) (now (keys .entry)) (now (key .entry)) ⌝ }
 {
     let bits = hash::bits_of(z, salt, key);
@@ -74,7 +74,7 @@ pub fn hand(
     keys: &mut [u8],
     counts: &mut [u32],
     flags: &mut [u8],
-    seen: &mut [u64],
+    seen: &mut [u16],
 ) -> Handed
     requires { ⌜ Hands l z salt n handed (now key) (now filter) (tab (now xors) (now flows) (now unknowns) (now positions) (now marks))
         (records (now keys) (now counts) (now flags)) (now seen) ⌝ }
@@ -90,7 +90,7 @@ pub fn hand(
         return a;
     };
     list::append(l, n, key, 2, keys, counts, flags);
-    marks::put_mark(seen, peeling::seen_bit(at), true);
+    index::link(seen, peeling::bucket(at), n);
     peeling::take_out(
         l,
         z,

@@ -11,7 +11,7 @@ use lib.Bits.{bitXor}
 use lib.Pow.{pow-pos}
 use Rattle.laws.specs.BigEndian.{bytesOf}
 use Rattle.laws.specs.Upto.{listUpto}
-use Rattle.hash.specs.Fnv.{step, absorb, basis, hashOf, seeded, place}
+use Rattle.hash.specs.Fnv.{step, absorb, basis, fnv, hashOf, seeded, place}
 use Rattle.hash.specs.Lanes.{absorbAll}
 
 -- a list is absorbed part by part
@@ -35,6 +35,14 @@ absorb-more h s i p = rw (add-one, drop-cons s i 0)
 pub absorb-none : (h : ℕ) (s : List ℕ) (i : ℕ) → length s ≤ i → absorb h (drop i s) ≡ h
 unfolding absorb
 absorb-none h s i p = rw drop-of-length-le
+
+-- a chain that is to end at the hash of s, having taken i bytes of it: one byte more, and at the end
+pub chain-on : (s : List ℕ) (i h : ℕ) {h′ : ℕ} → i < length s → absorb h (drop i s) ≡ fnv s → h′ ≡ step h (getD s i 0)
+    → absorb h′ (drop (i + 1) s) ≡ fnv s
+chain-on s i h p q e = rw e (sym (absorb-more h s i p) ∙ q)
+
+pub chain-end : (s : List ℕ) (i h : ℕ) → length s ≤ i → absorb h (drop i s) ≡ fnv s → h ≡ fnv s
+chain-end s i h p q = sym (absorb-none h s i p) ∙ q
 
 pub all-then : (hs : List ℕ) (b : ℕ) (s : List ℕ) → absorbAll (absorbAll hs (b ∷ [])) s ≡ absorbAll hs (b ∷ s)
 unfolding absorbAll absorb
@@ -88,12 +96,6 @@ absorb-word h x p q r s = rw (s, r, q, p)
 pub seeded-steps : (salt role i : ℕ) {a b c : ℕ} → a ≡ absorb basis (bytesOf 4 salt) → b ≡ step a role → c ≡ step b i → c ≡ seeded salt role i
 unfolding absorb seeded
 seeded-steps salt role i p q r = rw (r, q, p) (sym (absorb-append (bytesOf 4 salt) (role ∷ i ∷ []) basis))
-
--- each chain one byte on
-pub all-four : (h₀ h₁ h₂ h₃ b : ℕ) {a₀ a₁ a₂ a₃ : ℕ} → a₀ ≡ step h₀ b → a₁ ≡ step h₁ b → a₂ ≡ step h₂ b → a₃ ≡ step h₃ b
-    → (a₀ ∷ a₁ ∷ a₂ ∷ a₃ ∷ []) ≡ absorbAll (h₀ ∷ h₁ ∷ h₂ ∷ h₃ ∷ []) (b ∷ [])
-unfolding absorbAll absorb
-all-four h₀ h₁ h₂ h₃ b p q r s = rw (p, q, r, s)
 
 -- four hashes from four seeded chains
 pub all-hashed : (salt role first : ℕ) (key : List ℕ) {hs : List ℕ} → hs ≡ listUpto 4 (λ i. seeded salt role (first + i))

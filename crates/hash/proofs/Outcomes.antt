@@ -13,17 +13,33 @@ use Rattle.hash.proofs.Fnv.seeded.Kinds as fnv-seeded-kinds
 use Rattle.hash.proofs.Fnv.seeded.Reads as fnv-seeded
 use Rattle.hash.proofs.place.Kinds as place-kinds
 use Rattle.hash.proofs.place.Reads as place
+use Rattle.hash.proofs.fnv_of_four.Kinds as four-kinds
+use Rattle.hash.proofs.fnv_of_four.Reads as four
 use Rattle.hash.proofs.cells_of.Kinds as cells-of-kinds
 use Rattle.hash.proofs.cells_of.Reads as cells-of
 use Rattle.hash.proofs.bits_of.Kinds as bits-of-kinds
 use Rattle.hash.proofs.bits_of.Reads as bits-of
+use Rattle.laws.proofs.Upto.{same-four}
 use Rattle.hash.specs.declared.Fnv.{Fnv}
+use Rattle.hash.specs.declared.Lanes.{Lanes}
+use Rattle.hash.specs.Lanes.{states}
 use Rattle.hash.specs.declared.Cells.{Cells}
 use Rattle.hash.specs.declared.Bits.{Bits}
 
 -- a struct of one field is that field
 state-alone : (x y : Fnv) → x .state ≡ y .state → x ≡ y
 state-alone x y e = λ i. record { state = e i }
+
+-- a struct of four chains is their states
+lanes-alone : (x y : Lanes) → states x ≡ states y → x ≡ y
+lanes-alone x y e =
+    let p = same-four e in
+    λ i. record {
+      a = state-alone (x .a) (y .a) (p .0) i;
+      b = state-alone (x .b) (y .b) (p .1) i;
+      c = state-alone (x .c) (y .c) (p .2) i;
+      d = state-alone (x .d) (y .d) (p .3) i;
+    }
 
 cells-alone : (x y : Cells) → x .at ≡ y .at → x ≡ y
 cells-alone x y e = λ i. record { at = e i }
@@ -48,6 +64,9 @@ fnv-seeded-determined κs a p z z′ ws ws′ e e′ = (state-alone z z′ (e �
 
 pub place-determined : Determined _ place-kinds.ps place-kinds.r place.Asked place.Learnt
 place-determined κs a p z z′ ws ws′ e e′ = (e ∙ sym e′, refl)
+
+pub four-determined : Determined _ four-kinds.ps four-kinds.r four.Asked four.Learnt
+four-determined κs a p z z′ ws ws′ e e′ = (lanes-alone z z′ (e ∙ sym e′), refl)
 
 pub cells-of-determined : Determined _ cells-of-kinds.ps cells-of-kinds.r cells-of.Asked cells-of.Learnt
 cells-of-determined κs a p z z′ ws ws′ e e′ = (cells-alone z z′ (e ∙ sym e′), refl)

@@ -1,12 +1,13 @@
 // FNV-1a of 32 bits and the places it chooses: a flow's cells and filter bits. It rests on layout and laws.
-// Four chains run beside each other in one pass over the key, since one chain alone waits for its multiply at every byte.
+// Four chains, or eight, run beside each other, over one key or over a slice each, since one chain alone waits for its multiply at every byte.
 ghost use mathlib.Core.Path.{_≡_};
 ghost use mathlib.Core.List.{_∷_, [], _++_};
 ghost use Prim.Native.Nat.{_+_, _≤_};
+ghost use lib.ListN.{length};
 ghost use Rattle.laws.specs.BigEndian.{bytesOf};
 ghost use Rattle.laws.specs.Upto.{listUpto};
 ghost use Rattle.layout.specs.Sizes.{Lays, Ranged};
-ghost use Rattle.hash.specs.Fnv.{step, absorb, basis, hashOf};
+ghost use Rattle.hash.specs.Fnv.{step, absorb, basis, fnv, hashOf};
 ghost use Rattle.hash.specs.Lanes.{states, absorbAll};
 ghost use Rattle.hash.specs.Places.{cellOf, bitsOf};
 use layout::Layout;
@@ -71,15 +72,26 @@ pub fn place(hash: u32, n: u32) -> u32
     ((hash as u64) * (n as u64) / 4294967296) as u32
 }
 
-// Four chains over one key.
-struct Lanes {
-    a: Fnv,
-    b: Fnv,
-    c: Fnv,
-    d: Fnv,
+// Four chains.
+pub struct Lanes {
+    pub a: Fnv,
+    pub b: Fnv,
+    pub c: Fnv,
+    pub d: Fnv,
 }
 
 impl Lanes {
+    fn new() -> Lanes
+        ensures { λ r. ⌜ states r ≡ basis ∷ basis ∷ basis ∷ basis ∷ [] ⌝ }
+    {
+        Lanes {
+            a: Fnv::new(),
+            b: Fnv::new(),
+            c: Fnv::new(),
+            d: Fnv::new(),
+        }
+    }
+
     // The chains of four indices from `first` on, before the key.
     fn seeded(salt: u32, role: u8, first: u8) -> Lanes
         requires { ⌜ first ≤ 4 ⌝ }
@@ -93,19 +105,26 @@ impl Lanes {
         }
     }
 
-    fn byte(self, x: u8) -> Lanes
-        ensures { λ r. ⌜ states r ≡ absorbAll (states self) (x ∷ []) ⌝ }
+    // Each chain takes a byte of its own.
+    fn each(self, w: u8, x: u8, y: u8, z: u8) -> Lanes
+        ensures { λ r. ⌜ states r ≡ step (self .a .state) w ∷ step (self .b .state) x ∷ step (self .c .state) y ∷ step (self .d .state) z ∷ [] ⌝ }
     {
         let a = self.a;
         let b = self.b;
         let c = self.c;
         let d = self.d;
         Lanes {
-            a: a.byte(x),
+            a: a.byte(w),
             b: b.byte(x),
-            c: c.byte(x),
-            d: d.byte(x),
+            c: c.byte(y),
+            d: d.byte(z),
         }
+    }
+
+    fn byte(self, x: u8) -> Lanes
+        ensures { λ r. ⌜ states r ≡ absorbAll (states self) (x ∷ []) ⌝ }
+    {
+        self.each(x, x, x, x)
     }
 
     fn bytes(self, s: &[u8]) -> Lanes
@@ -121,12 +140,49 @@ impl Lanes {
     }
 }
 
+// FNV-1a of four slices of one length.
+pub fn fnv_of_four(a: &[u8], b: &[u8], c: &[u8], d: &[u8]) -> Lanes
+    requires { ⌜ (length (now b) ≡ length (now a)) × (length (now c) ≡ length (now a)) × (length (now d) ≡ length (now a)) ⌝ }
+    ensures { λ r. ⌜ states r ≡ fnv (now (a .entry)) ∷ fnv (now (b .entry)) ∷ fnv (now (c .entry)) ∷ fnv (now (d .entry)) ∷ [] ⌝ }
+{
+    let mut h = Lanes::new();
+    let mut i = 0;
+    while i < a.len() {
+        h = h.each(a[i], b[i], c[i], d[i]);
+        i += 1;
+    }
+    h
+}
+
 // The hashes of a key for four indices from `first` on.
 fn hashes(salt: u32, role: u8, first: u8, key: &[u8]) -> Lanes
     requires { ⌜ first ≤ 4 ⌝ }
     ensures { λ r. ⌜ states r ≡ listUpto 4 (λ i. hashOf salt role (first + i) (now (key .entry))) ⌝ }
 {
     Lanes::seeded(salt, role, first).bytes(key)
+}
+
+// Eight chains.
+struct Eight {
+    low: Lanes,
+    high: Lanes,
+}
+
+// The hashes of a key for the indices 0 to 7, in one pass.
+fn eight_hashes(salt: u32, role: u8, key: &[u8]) -> Eight
+    ensures { λ r. ⌜ (states (r .low) ≡ listUpto 4 (λ i. hashOf salt role (0 + i) (now (key .entry))))
+        × (states (r .high) ≡ listUpto 4 (λ i. hashOf salt role (4 + i) (now (key .entry)))) ⌝ }
+{
+    let mut low = Lanes::seeded(salt, role, 0);
+    let mut high = Lanes::seeded(salt, role, 4);
+    let mut i = 0;
+    while i < key.len() {
+        let b = key[i];
+        low = low.byte(b);
+        high = high.byte(b);
+        i += 1;
+    }
+    Eight { low, high }
 }
 
 // A flow's cells: the first k of four.
@@ -152,9 +208,32 @@ pub fn cells_of(l: Layout, z: Sizes, salt: u32, key: &[u8]) -> Cells
     }
 }
 
+// Four places.
+struct Four {
+    a: usize,
+    b: usize,
+    c: usize,
+    d: usize,
+}
+
 // A flow's filter bits: the first kf of eight.
 pub struct Bits {
     pub at: [usize; 8],
+}
+
+// The places of four hashes among n.
+fn places(h: Lanes, n: u32) -> Four
+    ensures { λ r. ⌜ (r .a ≡ Rattle.hash.specs.Fnv.place (h .a .state) n)
+        × (r .b ≡ Rattle.hash.specs.Fnv.place (h .b .state) n)
+        × (r .c ≡ Rattle.hash.specs.Fnv.place (h .c .state) n)
+        × (r .d ≡ Rattle.hash.specs.Fnv.place (h .d .state) n) ⌝ }
+{
+    Four {
+        a: place(h.a.state, n) as usize,
+        b: place(h.b.state, n) as usize,
+        c: place(h.c.state, n) as usize,
+        d: place(h.d.state, n) as usize,
+    }
 }
 
 // The filter bits of a key. Where kf is at most 4 the other four hashes are not worked out.
@@ -163,19 +242,16 @@ pub fn bits_of(z: Sizes, salt: u32, key: &[u8]) -> Bits
     ensures { λ r. ⌜ r .at ≡ bitsOf z salt (now (key .entry)) ⌝ }
 {
     let n = layout::filter_bits(z) as u32;
-    let mut at = [0usize; 8];
-    let h = hashes(salt, 0x46, 0, key);
-    at[0] = place(h.a.state, n) as usize;
-    at[1] = place(h.b.state, n) as usize;
-    at[2] = place(h.c.state, n) as usize;
-    at[3] = place(h.d.state, n) as usize;
     if z.kf <= 4 {
-        return Bits { at };
+        let p = places(hashes(salt, 0x46, 0, key), n);
+        return Bits {
+            at: [p.a, p.b, p.c, p.d, 0, 0, 0, 0],
+        };
     }
-    let g = hashes(salt, 0x46, 4, key);
-    at[4] = place(g.a.state, n) as usize;
-    at[5] = place(g.b.state, n) as usize;
-    at[6] = place(g.c.state, n) as usize;
-    at[7] = place(g.d.state, n) as usize;
-    Bits { at }
+    let h = eight_hashes(salt, 0x46, key);
+    let p = places(h.low, n);
+    let q = places(h.high, n);
+    Bits {
+        at: [p.a, p.b, p.c, p.d, q.a, q.b, q.c, q.d],
+    }
 }

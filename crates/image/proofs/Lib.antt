@@ -1,6 +1,7 @@
 -- Laws of blocks and images; the theorems are in Back, Places and Outcomes.
 pub mod Stores
 pub mod Returns
+pub mod Right
 pub mod OneBlock
 pub mod Accepts
 pub mod Rows

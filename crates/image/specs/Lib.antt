@@ -2,3 +2,4 @@
 pub mod Block
 pub mod Seal
 pub mod Read
+pub mod Right

@@ -8,6 +8,7 @@ ghost use Rattle.laws.specs.Upto.{joinUpto};
 ghost use Rattle.layout.specs.Sizes.{Lays, Ranged, ipv4Layout, blocks};
 ghost use Rattle.hash.specs.Fnv.{fnv};
 ghost use Rattle.image.specs.Block.{header, padded, checked, block, blockOf, imageOf};
+ghost use Rattle.image.specs.Right.{rightBlocks};
 ghost use Rattle.image.specs.Seal.{zeroBytes, sealRooms, sealing, sealOf};
 ghost use Rattle.image.specs.Read.{badLength, sizesIn, sameSizes, kindOf, cellsFormed, readLater, readOf};
 use hash::Fnv;
@@ -249,6 +250,68 @@ fn checks(b: &[u8]) -> bool
     fields::long_at(b, 508) == check_of(b)
 }
 
+// How many of four blocks have the right check, up to the first that has not. One chain waits for its multiply at every byte, so the four run beside
+// each other.
+fn right_of_four(four: &[u8]) -> usize
+    requires { ⌜ length (now four) ≡ 2048 ⌝ }
+    ensures { λ r. ⌜ r ≡ rightBlocks 4 (now (four .entry)) ⌝ }
+{
+    let h = hash::fnv_of_four(
+        &four[0..508],
+        &four[512..1020],
+        &four[1024..1532],
+        &four[1536..2044],
+    );
+    if fields::long_at(four, 508) != h.a.state {
+        return 0;
+    }
+    if fields::long_at(four, 1020) != h.b.state {
+        return 1;
+    }
+    if fields::long_at(four, 1532) != h.c.state {
+        return 2;
+    }
+    if fields::long_at(four, 2044) != h.d.state {
+        return 3;
+    }
+    4
+}
+
+// How many of `count` blocks have the right check, up to the first that has not; the first n are known to have it.
+fn right_from(n: usize, count: usize, blocks: &[u8]) -> usize
+    requires { ⌜ (n ≤ count) × (count ≤ 80) × (length (now blocks) ≡ count * 512) × (rightBlocks n (now blocks) ≡ n) ⌝ }
+    ensures { λ r. ⌜ r ≡ rightBlocks count (now (blocks .entry)) ⌝ }
+{
+    let mut m = n;
+    while m < count {
+        let start = m * 512;
+        let end = start + 512;
+        if !checks(&blocks[start..end]) {
+            return m;
+        }
+        m += 1;
+    }
+    m
+}
+
+// The same, four blocks at a time as long as there are four.
+fn right_blocks(count: usize, blocks: &[u8]) -> usize
+    requires { ⌜ (count ≤ 80) × (length (now blocks) ≡ count * 512) ⌝ }
+    ensures { λ r. ⌜ r ≡ rightBlocks count (now (blocks .entry)) ⌝ }
+{
+    let mut n = 0;
+    while n + 4 <= count {
+        let start = n * 512;
+        let end = start + 2048;
+        let right = right_of_four(&blocks[start..end]);
+        n += right;
+        if right < 4 {
+            return n;
+        }
+    }
+    right_from(n, count, blocks)
+}
+
 // The sizes that a block names.
 fn sizes_in(b: &[u8]) -> Sizes
     requires { ⌜ length (now b) ≡ 512 ⌝ }
@@ -326,18 +389,19 @@ fn formed(l: Layout, z: Sizes, n: usize, b: &[u8]) -> bool
     cells_formed(l, &b[16..496])
 }
 
-// Reads the blocks after block 0, whose sizes and salt are given.
+// Reads the blocks after block 0, whose sizes and salt are given. All checks are worked out first; a block's is asked in its turn.
 fn read_later(l: Layout, z: Sizes, salt: u32, slot: u32, image: &[u8]) -> Reading
     requires { ⌜ Lays l × Ranged z × (length (now image) ≡ blocks z * 512) ⌝ }
     ensures { λ r. ⌜ r ≡ readLater l z salt slot (now (image .entry)) 1 (blocks z - 1) ⌝ }
 {
     let count = layout::block_count(z);
+    let right = right_blocks(count - 1, &image[512..]);
     let mut n = 1;
     while n < count {
         let start = n * 512;
         let end = start + 512;
         let b = &image[start..end];
-        if !checks(b) {
+        if n == right + 1 {
             return Reading::Check(n);
         }
         if !formed(l, z, n, b) {

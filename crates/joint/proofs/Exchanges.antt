@@ -64,7 +64,7 @@ module _ (l : Layout) (u v : Live) (pu : Passing l u) (pv : Passing l v) (slots 
   abbrev B : sides.Switch
   B = switchOf (v .numbers)
 
-  abbrev done : Ended
+  abbrev pub done : Ended
   done = exchangeSides l A (u .room .filter) B (v .room .filter) (pair (sideOf l (u .numbers) (u .room)) (sideOf l (v .numbers) (v .room)) 0)
 
   rooms-a : Rooms l (u .numbers .sizes) (u .room)
@@ -83,7 +83,7 @@ module _ (l : Layout) (u v : Live) (pu : Passing l u) (pv : Passing l v) (slots 
   is-b = joined-b l (u .numbers .sizes) (u .room) (v .room) rooms-a
 
   -- nothing is refused
-  exchange-passed : exchangeOn l u v ≡ leaves (u .room) (v .room) done
+  pub exchange-passed : exchangeOn l u v ≡ leaves (u .room) (v .room) done
   unfolding exchangeOf afterTest
   exchange-passed =
       let sizes = and-i (inRange (u .numbers .sizes)) (inRange (v .numbers .sizes)) (tests-pass l u pu .sizes) (tests-pass l v pv .sizes) in

@@ -1,6 +1,7 @@
 -- What the theorems of this crate say: the exchange call on two sessions as the theory sees it.
 use Prim.Native.Nat.{ℕ}
 use Rattle.layout.specs.declared.Layout.{Layout}
+use Rattle.room.specs.declared.Session.{Session}
 use Rattle.exchange.specs.declared.Exchanged.{Exchanged}
 use Rattle.exchange.specs.declared.Exchanged.the-variants as exchanged
 use Rattle.exchange.specs.Exchange.{Exchanging, exchangeOf, joined, seam, roomA, roomB}
@@ -45,11 +46,13 @@ exchangeOn l u v = exchangeOf l (u .numbers) (v .numbers) (joined (u .room) (v .
 abbrev pub pairBefore : Layout → Live → Live → Pair
 pairBefore l u v = record { a = viewed l u; b = viewed l v; twelves = 0 }
 
+-- s and t after an exchange that left x
+abbrev pub pairLeft : Layout → Session → Session → Exchanging → Pair
+pairLeft l s t x = record {
+  a = viewed l (live (withListed s (listedA (x .answer) (s .listed))) (roomA (seam l (s .sizes)) (x .room)));
+  b = viewed l (live (withListed t (listedB (x .answer) (t .listed))) (roomB (seam l (s .sizes)) (x .room)));
+  twelves = twelvesOf (x .answer);
+}
+
 abbrev pub pairAfter : Layout → Live → Live → Pair
-pairAfter l u v =
-    let x = exchangeOn l u v in
-    record {
-      a = viewed l (live (withListed (u .numbers) (listedA (x .answer) (u .numbers .listed))) (roomA (seam l (u .numbers .sizes)) (x .room)));
-      b = viewed l (live (withListed (v .numbers) (listedB (x .answer) (v .numbers .listed))) (roomB (seam l (u .numbers .sizes)) (x .room)));
-      twelves = twelvesOf (x .answer);
-    }
+pairAfter l u v = pairLeft l (u .numbers) (v .numbers) (exchangeOn l u v)

@@ -66,6 +66,10 @@ module _ (l : Layout) (z : Sizes) (lays : Lays l) (r : Ranged z) where
   unfolding partCells
   part-high = let p = mul-le-mul {n₂ = 24} {m₂ = 16} (lays .most-cells) (r .q-high) in omega arith
 
+  pub table-low : 1 ≤ tableCells l z
+  unfolding tableCells
+  table-low = let p = mul-le-mul {n₁ = 1} {m₁ = 1} (let q : 1 ≤ z .k = omega (arith, r .k-low) in q) part-low in omega arith
+
   pub table-high : tableCells l z ≤ 1536
   unfolding tableCells
   table-high = let p = mul-le-mul {n₂ = 4} {m₂ = 384} (r .k-high) part-high in omega arith

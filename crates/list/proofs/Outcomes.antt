@@ -4,8 +4,8 @@ use Rattle.laws.specs.Outcomes.{Determined}
 use Rattle.laws.proofs.Outcomes.{both}
 use Rattle.list.proofs.same_key.Kinds as same-key-kinds
 use Rattle.list.proofs.same_key.Reads as same-key
-use Rattle.list.proofs.is_listed.Kinds as is-listed-kinds
-use Rattle.list.proofs.is_listed.Reads as is-listed
+use Rattle.list.proofs.key_is.Kinds as key-is-kinds
+use Rattle.list.proofs.key_is.Reads as key-is
 use Rattle.list.proofs.append.Kinds as append-kinds
 use Rattle.list.proofs.append.Reads as append
 use Rattle.list.proofs.set_count.Kinds as set-count-kinds
@@ -15,8 +15,8 @@ use Rattle.list.specs.Records.{Records}
 pub same-key-determined : Determined _ same-key-kinds.ps same-key-kinds.r same-key.Asked same-key.Learnt
 same-key-determined κs a p z z′ ws ws′ e e′ = (e ∙ sym e′, refl)
 
-pub is-listed-determined : Determined _ is-listed-kinds.ps is-listed-kinds.r is-listed.Asked is-listed.Learnt
-is-listed-determined κs a p z z′ ws ws′ e e′ = (e ∙ sym e′, refl)
+pub key-is-determined : Determined _ key-is-kinds.ps key-is-kinds.r key-is.Asked key-is.Learnt
+key-is-determined κs a p z z′ ws ws′ e e′ = (e ∙ sym e′, refl)
 
 pub append-determined : Determined _ append-kinds.ps append-kinds.r append.Asked append.Learnt
 append-determined κs a p z z′ ws ws′ e e′ =

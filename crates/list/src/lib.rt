@@ -2,7 +2,7 @@
 ghost use mathlib.Core.Path.{_≡_};
 ghost use Prim.Native.Nat.{_+_, _*_, _<_, _≤_};
 ghost use lib.ListN.{length, set};
-ghost use Rattle.list.specs.Records.{records, keyAt, sameBytes, isListed, appended, knownAt};
+ghost use Rattle.list.specs.Records.{records, keyAt, sameBytes, appended, knownAt};
 use layout::Layout;
 
 // Whether two keys are the same.
@@ -21,28 +21,13 @@ pub fn same_key(a: &[u8], b: &[u8]) -> bool
 }
 
 // Whether the key at position i is this key.
-fn key_is(l: Layout, keys: &[u8], i: usize, key: &[u8]) -> bool
+pub fn key_is(l: Layout, keys: &[u8], i: usize, key: &[u8]) -> bool
     requires { ⌜ (i * l .key + l .key ≤ length (now keys)) × (length (now key) ≡ l .key) ⌝ }
     ensures { λ r. ⌜ r ≡ sameBytes (keyAt l (now (keys .entry)) i) (now (key .entry)) ⌝ }
 {
     let a = i * l.key;
     let e = a + l.key;
     same_key(&keys[a..e], key)
-}
-
-// Whether the key is among the first n.
-pub fn is_listed(l: Layout, n: usize, keys: &[u8], key: &[u8]) -> bool
-    requires { ⌜ (n * l .key ≤ length (now keys)) × (length (now key) ≡ l .key) ⌝ }
-    ensures { λ r. ⌜ r ≡ isListed l n (now (keys .entry)) (now (key .entry)) ⌝ }
-{
-    let mut i = 0;
-    while i < n {
-        if key_is(l, keys, i, key) {
-            return true;
-        }
-        i += 1;
-    }
-    false
 }
 
 // Writes a flow into record n, with no count.

@@ -129,7 +129,7 @@ fits-fill l z salt m n a e t rs seen i f u vs w g = record {
   keys-fill = g .room .keys-fit ∙ sym (f .room .keys-fit) ∙ length-between (a .keys) (e .keys) (rs .keys) (i .keys-up) (i .keys-in);
   counts-fill = g .room .counts-fit ∙ sym (f .room .counts-fit) ∙ length-between (a .records) (e .records) (rs .counts) (i .records-up) (i .counts-in);
   flags-fill = g .room .flags-fit ∙ sym (f .room .flags-fit) ∙ length-between (a .records) (e .records) (rs .flags) (i .records-up) (i .flags-in);
-  seen-fill = g .covers .words ∙ sym (f .covers .words) ∙ length-between (a .seen) (e .seen) seen (i .seen-up) (i .seen-in);
+  seen-fill = g .covers .sized ∙ sym (f .covers .sized) ∙ length-between (a .seen) (e .seen) seen (i .seen-up) (i .seen-in);
 }
 
 module _ (a e : Place) (t : Tab) (rs : Records) (seen : List ℕ) (i : Inside a e t rs seen) (u : Tab) (vs : Records) (w : List ℕ) (f : Fills a e u vs w) where

@@ -21,7 +21,7 @@ use Rattle.parts.specs.Sides.{Switch, Side, side, Given, given, handAt, 
 abbrev pub origin : Place
 origin = record { filter = 0; cells = 0; xors = 0; words = 0; records = 0; keys = 0; seen = 0 }
 
--- the place after a session's part: the lengths that room's `Rooms` asks for, and 256 words of the bitmap
+-- the place after a session's part: the lengths that room's `Rooms` asks for, and an index
 unfoldable pub placeAfter : Layout → Sizes → Place → Place
 placeAfter l z p =
     let n = tableCells l z in
@@ -32,7 +32,7 @@ placeAfter l z p =
       words = p .words + wordsFor n;
       records = p .records + 2 * n;
       keys = p .keys + 2 * n * l .key;
-      seen = p .seen + 256;
+      seen = p .seen + 11264;
     }
 
 -- places of which at most seven sessions lie before
@@ -43,7 +43,7 @@ pub record Near (p : Place) : Type 0 where
   pub words-near : p .words ≤ 168
   pub records-near : p .records ≤ 21504
   pub keys-near : p .keys ≤ 10321920
-  pub seen-near : p .seen ≤ 1792
+  pub seen-near : p .seen ≤ 78848
 
 -- what stands from i to j, and the list with other elements there
 abbrev pub between : ℕ → ℕ → List ℕ → List ℕ
@@ -144,7 +144,7 @@ pub record Inside (a e : Place) (t : Tab) (rs : Records) (seen : List ℕ) : Typ
   pub counts-in : e .records ≤ length (rs .counts)
   pub flags-in : e .records ≤ length (rs .flags)
   pub seen-up : a .seen ≤ e .seen
-  pub seen-few : e .seen ≤ 2048
+  pub seen-few : e .seen ≤ 90112
   pub seen-in : e .seen ≤ length seen
 
 -- the session of the part, and m keys in the area that lie before the part or after it

@@ -27,7 +27,7 @@ pub record Switch : Type 0 where
 abbrev pub switch : Sizes → ℕ → Switch
 switch z salt = record { sizes = z; salt = salt }
 
--- what the exchange changes of a session: how many flows are listed, the cells, the list, and the bitmap of the listed flows
+-- what the exchange changes of a session: how many flows are listed, the cells, the list, and the index of the listed flows
 pub record Side : Type 0 where
   pub listed : ℕ
   pub table : Tab

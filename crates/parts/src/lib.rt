@@ -9,6 +9,7 @@ ghost use Rattle.layout.specs.Sizes.{Lays, Ranged, tableCells};
 ghost use Rattle.list.specs.Records.{records, Room};
 ghost use Rattle.peeling.specs.Table.{tab, Fit};
 ghost use Rattle.test8.specs.Test8.{overListed, isSession, handedIn};
+ghost use Rattle.index.specs.Index.{Empty};
 ghost use Rattle.test8.specs.Given.{seenUpto};
 ghost use Rattle.handing.specs.Hand.{handing, takenBy, Hands};
 ghost use Rattle.parts.specs.Sides.{switch, Stands, twelveBy, given};
@@ -34,7 +35,7 @@ use layout::Layout;
 use layout::Sizes;
 use peeling::Stop;
 
-// A place in each kind of area: in filter bytes, cells, FlowXOR bytes, mark words, records, their keys' bytes, and words of the bitmap.
+// A place in each kind of area: in filter bytes, cells, FlowXOR bytes, mark words, records, their keys' bytes, and places of the index.
 pub struct Place {
     pub filter: usize,
     pub cells: usize,
@@ -79,11 +80,11 @@ pub fn place_after(l: Layout, z: Sizes, p: Place) -> Place
         words: p.words + (n + 63) / 64,
         records: p.records + 2 * n,
         keys: p.keys + 2 * n * l.key,
-        seen: p.seen + 256,
+        seen: p.seen + 11264,
     }
 }
 
-// The test of 8 of the session of the part from a to e, in which n flows are said to be listed. The bitmap gets a bit for each listed key.
+// The test of 8 of the session of the part from a to e, in which n flows are said to be listed. The index gets each listed key.
 pub fn is_session_part(
     l: Layout,
     z: Sizes,
@@ -99,12 +100,12 @@ pub fn is_session_part(
     keys: &[u8],
     counts: &[u32],
     flags: &[u8],
-    seen: &mut [u64],
+    seen: &mut [u16],
 ) -> bool
     requires { ⌜ Inside a e (tab (now xors) (now flows) (now unknowns) (now positions) (now marks)) (records (now keys) (now counts) (now flags)) (now seen)
         × Fit l z (tableAt a e (tab (now xors) (now flows) (now unknowns) (now positions) (now marks)))
         × Room l (2 * tableCells l z) (listAt a e (records (now keys) (now counts) (now flags)))
-        × (length (between (a .seen) (e .seen) (now seen)) ≡ 256) ⌝ }
+        × Empty (between (a .seen) (e .seen) (now seen)) ⌝ }
     ensures { λ r. ⌜ (r ≡ isSession l z salt n (tableAt a e (tab (now (xors .entry)) (now (flows .entry)) (now (unknowns .entry)) (now (positions .entry)) (now (marks .entry))))
         (listAt a e (records (now (keys .entry)) (now (counts .entry)) (now (flags .entry)))))
         × (now (seen .exit) ≡ laid (a .seen) (e .seen) (now (seen .entry)) (seenUpto l z salt (cond (overListed l z n) 0 n)
@@ -156,7 +157,7 @@ pub fn settle_part(
     keys: &mut [u8],
     counts: &mut [u32],
     flags: &mut [u8],
-    seen: &mut [u64],
+    seen: &mut [u16],
 ) -> Stop
     requires { ⌜ Inside a e (tab (now xors) (now flows) (now unknowns) (now positions) (now marks)) (records (now keys) (now counts) (now flags)) (now seen)
         × (e .cells ≤ length (now packets))
@@ -216,7 +217,7 @@ fn hand_part(
     keys: &mut [u8],
     counts: &mut [u32],
     flags: &mut [u8],
-    seen: &mut [u64],
+    seen: &mut [u16],
 ) -> Handed
     requires { ⌜ Inside a e (tab (now xors) (now flows) (now unknowns) (now positions) (now marks)) (records (now keys) (now counts) (now flags)) (now seen)
         × (a .filter ≤ e .filter) × (e .filter ≤ length (now filter))
@@ -305,7 +306,7 @@ fn hand_next(
     keys: &mut [u8],
     counts: &mut [u32],
     flags: &mut [u8],
-    seen: &mut [u64],
+    seen: &mut [u16],
 ) -> Handed
     requires { ⌜ Inside a e (tab (now xors) (now flows) (now unknowns) (now positions) (now marks)) (records (now keys) (now counts) (now flags)) (now seen)
         × (a .filter ≤ e .filter) × (e .filter ≤ length (now filter)) × (at + l .key ≤ length (now keys)) × (at + l .key ≤ 16777216)
@@ -363,7 +364,7 @@ fn give_each(
     keys: &mut [u8],
     counts: &mut [u32],
     flags: &mut [u8],
-    seen: &mut [u64],
+    seen: &mut [u16],
 ) -> Tally
     requires { ⌜ Gives l z salt a e n from m (now filter) (tab (now xors) (now flows) (now unknowns) (now positions) (now marks))
         (records (now keys) (now counts) (now flags)) (now seen)
@@ -439,7 +440,7 @@ pub fn give(
     keys: &mut [u8],
     counts: &mut [u32],
     flags: &mut [u8],
-    seen: &mut [u64],
+    seen: &mut [u16],
 ) -> Tally
     requires { ⌜ Gives l z salt a e n from m (now filter) (tab (now xors) (now flows) (now unknowns) (now positions) (now marks))
         (records (now keys) (now counts) (now flags)) (now seen) ⌝ }

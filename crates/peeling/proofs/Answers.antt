@@ -18,14 +18,15 @@ use Rattle.layout.proofs.Ranges.{table-high}
 use Rattle.hash.specs.Places.{cellOf, Within}
 use Rattle.list.specs.Records.{Records, Room, keyAt, isListed, appended}
 use Rattle.list.proofs.Laws.{length-key, key-inside, keys-inside, key-appended, room-appended}
-use Rattle.marks.specs.Marks.{firstMark, putMark}
+use Rattle.index.specs.Index.{linked}
+use Rattle.marks.specs.Marks.{firstMark}
 use Rattle.peeling.specs.Table.{Tab, Fit, InBytes, anyEmpty, hasEmpty, takenOut}
-use Rattle.peeling.specs.Seen.{seenBit, seenBitOf, ClearMeansNew}
+use Rattle.peeling.specs.Seen.{bucket, bucketOf, LeadsTo}
 use Rattle.peeling.specs.Peel.{Fits, peeled, peelDamaged, peelTaken, peelAt, peelOf}
 use Rattle.peeling.specs.declared.Step.{Step}
 use Rattle.peeling.specs.declared.Step.the-variants.{Quiet, Full, Damaged, Next}
 use Rattle.peeling.proofs.Table.{empty-is, fit-out}
-use Rattle.peeling.proofs.Seen.{clear-new, covers-more}
+use Rattle.peeling.proofs.Seen.{leads, covers-more}
 use Rattle.laws.proofs.Rows.{row-within}
 
 -- ---- where keys lie
@@ -64,9 +65,11 @@ module _ (l : Layout) (z : Sizes) (salt n : ℕ) (t : Tab) (rs : Records) (seen 
   pub all-places : (key : List ℕ) {at : List ℕ} → at ≡ listUpto 4 (cellOf l z salt key) → Within at (z .k) (length (t .flows))
   all-places key e i h = omega (arith, places-within l z (f .table .lays) (f .table .ranged) salt key e i h, f .table .flows-fit)
 
-  pub clear-means-new : (key : List ℕ) {at : List ℕ} → length key ≡ l .key → at ≡ listUpto 4 (cellOf l z salt key)
-      → ClearMeansNew l n (rs .keys) key seen at
-  clear-means-new key e q = clear-new l z salt n (rs .keys) seen (f .covers) key (keys-inside n (f .room) (f .listed)) e q
+  pub listed-few : n ≤ 3072
+  listed-few = omega (arith, f .listed, table-high l z (f .table .lays) (f .table .ranged))
+
+  pub leads-to : (key : List ℕ) {at : List ℕ} → at ≡ listUpto 4 (cellOf l z salt key) → LeadsTo l n (rs .keys) key (bucket at) seen
+  leads-to key q = leads l z salt n (rs .keys) seen (f .covers) key q
 
   module _ {cells c : ℕ} (s : cells ≡ tableCells l z) (d : c ≡ firstMark (t .marks)) where
     pub peel-quiet : cells ≤ c → peeled Quiet t rs seen ≡ peelOf l z salt n t rs seen
@@ -95,15 +98,15 @@ module _ (l : Layout) (z : Sizes) (salt n : ℕ) (t : Tab) (rs : Records) (seen 
         unfolding peelAt
         peel-damaged q = (rw (lt-leb (2 * tableCells l z) n (omega arith), ← damage-is, q) at from-mark)
 
-        pub peel-taken : {t′ : Tab} {rs′ : Records} {seen′ key′ : List ℕ} {bit : ℕ} → b ≡ false → rs′ ≡ appended l n key 0 rs
-            → bit ≡ seenBit at → seen′ ≡ putMark seen bit true → key′ ≡ key → t′ ≡ takenOut l z salt key′ n t
+        pub peel-taken : {t′ : Tab} {rs′ : Records} {seen′ key′ : List ℕ} {own : ℕ} → b ≡ false → rs′ ≡ appended l n key 0 rs
+            → own ≡ bucket at → seen′ ≡ linked seen own n → key′ ≡ key → t′ ≡ takenOut l z salt key′ n t
             → peeled Next t′ rs′ seen′ ≡ peelOf l z salt n t rs seen
         unfolding peelAt peelTaken
-        peel-taken {t′} {rs′} {seen′} {key′} {bit} q u v w x y =
+        peel-taken {t′} {rs′} {seen′} {key′} {own} q u v w x y =
             let t-is : t′ ≡ takenOut l z salt (keyAt l (t .xors) c) n t = y ∙ ap (λ m. takenOut l z salt m n t) (x ∙ k) in
             let rs-is : rs′ ≡ appended l n (keyAt l (t .xors) c) 0 rs = u ∙ ap (λ m. appended l n m 0 rs) k in
-            let bit-is : bit ≡ seenBitOf l z salt (keyAt l (t .xors) c) = v ∙ ap seenBit a ∙ ap (seenBitOf l z salt) k in
-            let seen-is : seen′ ≡ putMark seen (seenBitOf l z salt (keyAt l (t .xors) c)) true = w ∙ ap (λ m. putMark seen m true) bit-is in
+            let own-is : own ≡ bucketOf l z salt (keyAt l (t .xors) c) = v ∙ ap bucket a ∙ ap (bucketOf l z salt) k in
+            let seen-is : seen′ ≡ linked seen (bucketOf l z salt (keyAt l (t .xors) c)) n = w ∙ ap (λ m. linked seen m n) own-is in
             ap (λ m. peeled Next m rs′ seen′) t-is ∙ ap₂ (λ m o. peeled Next (takenOut l z salt (keyAt l (t .xors) c) n t) m o) rs-is seen-is
             ∙ (rw (lt-leb (2 * tableCells l z) n (omega arith), ← damage-is, q) at from-mark)
 
@@ -117,7 +120,8 @@ module _ (l : Layout) (z : Sizes) (salt n : ℕ) (t : Tab) (rs : Records) (seen 
         table = fit-out l z salt key n t (f .table);
         room = room-appended l (2 * tableCells l z) n key 0 rs (f .room);
         listed = omega arith;
-        covers = covers-more l z salt n (rs .keys) seen (f .covers) key (length-key l (t .xors) c (xor-inside c (f .table) h))
+        covers = covers-more l z salt n (rs .keys) seen (f .covers) key (omega (arith, g, table-high l z (f .table .lays) (f .table .ranged)))
+            (length-key l (t .xors) c (xor-inside c (f .table) h))
             (key-inside n (f .room) g);
       }
 

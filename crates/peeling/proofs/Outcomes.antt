@@ -8,8 +8,8 @@ use Rattle.peeling.proofs.take_out.Kinds as take-out-kinds
 use Rattle.peeling.proofs.take_out.Reads as take-out
 use Rattle.peeling.proofs.any_empty.Kinds as any-empty-kinds
 use Rattle.peeling.proofs.any_empty.Reads as any-empty
-use Rattle.peeling.proofs.seen_bit.Kinds as seen-bit-kinds
-use Rattle.peeling.proofs.seen_bit.Reads as seen-bit
+use Rattle.peeling.proofs.bucket.Kinds as bucket-kinds
+use Rattle.peeling.proofs.bucket.Reads as bucket
 use Rattle.peeling.proofs.is_found.Kinds as is-found-kinds
 use Rattle.peeling.proofs.is_found.Reads as is-found
 use Rattle.peeling.proofs.peel.Kinds as peel-kinds
@@ -28,8 +28,8 @@ take-out-determined κs a p z z′ ws ws′ e e′ = let f = e ∙ sym e′ in (
 pub any-empty-determined : Determined _ any-empty-kinds.ps any-empty-kinds.r any-empty.Asked any-empty.Learnt
 any-empty-determined κs a p z z′ ws ws′ e e′ = (e ∙ sym e′, refl)
 
-pub seen-bit-determined : Determined _ seen-bit-kinds.ps seen-bit-kinds.r seen-bit.Asked seen-bit.Learnt
-seen-bit-determined κs a p z z′ ws ws′ e e′ = (e ∙ sym e′, refl)
+pub bucket-determined : Determined _ bucket-kinds.ps bucket-kinds.r bucket.Asked bucket.Learnt
+bucket-determined κs a p z z′ ws ws′ e e′ = (e ∙ sym e′, refl)
 
 pub is-found-determined : Determined _ is-found-kinds.ps is-found-kinds.r is-found.Asked is-found.Learnt
 is-found-determined κs a p z z′ ws ws′ e e′ = (e ∙ sym e′, refl)

@@ -7,15 +7,16 @@ use Rattle.layout.specs.declared.Layout.{Layout}
 use Rattle.layout.specs.declared.Sizes.{Sizes}
 use Rattle.layout.specs.Sizes.{tableCells}
 use Rattle.list.specs.Records.{Records, Room, keyAt, isListed, appended}
-use Rattle.marks.specs.Marks.{firstMark, putMark}
+use Rattle.index.specs.Index.{linked}
+use Rattle.marks.specs.Marks.{firstMark}
 use Rattle.peeling.specs.Table.{Tab, Fit, hasEmpty, takenOut}
-use Rattle.peeling.specs.Seen.{seenBitOf, Covers}
+use Rattle.peeling.specs.Seen.{bucketOf, Covers}
 use Rattle.peeling.specs.declared.Step.{Step}
 use Rattle.peeling.specs.declared.Step.the-variants.{Quiet, Full, Damaged, Next}
 use Rattle.peeling.specs.declared.Stop.{Stop}
 use Rattle.peeling.specs.declared.Stop.the-variants as stop
 
--- room for the cells and for 2 N records, of which n are listed, and a bitmap that covers those
+-- room for the cells and for 2 N records, of which n are listed, and an index that has those
 pub record Fits (l : Layout) (z : Sizes) (salt n : ℕ) (t : Tab) (rs : Records) (seen : List ℕ) : Type 0 where
   pub table : Fit l z t
   pub room : Room l (2 * tableCells l z) rs
@@ -37,10 +38,10 @@ peeled answer t rs seen = record { answer = answer; table = t; list = rs; seen =
 unfoldable pub peelDamaged : Layout → Sizes → ℕ → ℕ → List ℕ → List ℕ → List ℕ → Bool
 peelDamaged l z salt n flows keys key = isListed l n keys key || hasEmpty l z salt flows key
 
--- the flow taken out of the cells, appended and noted in the bitmap
+-- the flow taken out of the cells, appended and noted in the index
 unfoldable pub peelTaken : Layout → Sizes → ℕ → ℕ → List ℕ → Tab → Records → List ℕ → Peeled
 peelTaken l z salt n key t rs seen =
-    peeled Next (takenOut l z salt key n t) (appended l n key 0 rs) (putMark seen (seenBitOf l z salt key) true)
+    peeled Next (takenOut l z salt key n t) (appended l n key 0 rs) (linked seen (bucketOf l z salt key) n)
 
 -- the peel from a marked cell. 01 'A session': "13 is given before a peel, ahead of 14, when 2 N flows are listed"
 unfoldable pub peelAt : Layout → Sizes → ℕ → ℕ → Tab → Records → List ℕ → ℕ → Peeled

@@ -1,5 +1,5 @@
 // Peeling: a key is taken out of its cells and listed, from the lowest marked cell, while there is one.
-// It rests on marks, on list, and on hash for a flow's cells, over any layout.
+// It rests on marks, on list, on index for finding a listed key, and on hash for a flow's cells, over any layout.
 ghost use mathlib.Core.Path.{_≡_};
 ghost use mathlib.Core.Bool.{_||_};
 ghost use Prim.Native.Nat.{_+_, _-_, _*_, _<_, _≤_};
@@ -19,7 +19,7 @@ ghost use Rattle.peeling.specs.Table.{
   takenAt,
   takenOut,
 };
-ghost use Rattle.peeling.specs.Seen.{seenBit, ClearMeansNew};
+ghost use Rattle.peeling.specs.Seen.{bucket, LeadsTo};
 ghost use Rattle.peeling.specs.Peel.{Fits, peeled, peelOf, stopAt, ended, peelsOf};
 use hash::Cells;
 use hash::Fnv;
@@ -159,25 +159,28 @@ pub fn any_empty(at: Cells, k: usize, flows: &[u16]) -> bool
     false
 }
 
-// The bit of a flow in the bitmap of listed flows.
-pub fn seen_bit(at: Cells) -> usize
+// The bucket of a flow in the index of listed flows.
+pub fn bucket(at: Cells) -> usize
     requires { ⌜ Within (at .at) 2 1536 ⌝ }
-    ensures { λ r. ⌜ r ≡ seenBit (at .at) ⌝ }
+    ensures { λ r. ⌜ r ≡ Rattle.peeling.specs.Seen.bucket (at .at) ⌝ }
 {
-    (at.at[0] * 384 + at.at[1]) % 16384
+    (at.at[0] * 384 + at.at[1]) % 8192
 }
 
-// Whether a key is among the first n. Keys are compared only where the key's bit is set.
-pub fn is_found(l: Layout, n: usize, at: Cells, key: &[u8], keys: &[u8], seen: &[u64]) -> bool
-    requires { ⌜ Within (at .at) 2 1536 × (length (now seen) ≡ 256) × (n * l .key ≤ length (now keys)) × (length (now key) ≡ l .key)
-        × ClearMeansNew l n (now keys) (now key) (now seen) (at .at) ⌝ }
+// Whether a key is among the first n. Only the keys of its bucket are compared, the last listed first.
+pub fn is_found(l: Layout, n: usize, at: Cells, key: &[u8], keys: &[u8], seen: &[u16]) -> bool
+    requires { ⌜ Within (at .at) 2 1536 × (n ≤ 3072) × (n * l .key ≤ length (now keys)) × (length (now key) ≡ l .key)
+        × LeadsTo l n (now keys) (now key) (bucket (at .at)) (now seen) ⌝ }
     ensures { λ r. ⌜ r ≡ isListed l n (now (keys .entry)) (now (key .entry)) ⌝ }
 {
-    let bit = seen_bit(at);
-    if !marks::is_marked(seen, bit) {
-        return false;
+    let mut i = index::first(seen, bucket(at));
+    while i != 0 {
+        if list::key_is(l, keys, i - 1, key) {
+            return true;
+        }
+        i = index::earlier(seen, i - 1);
     }
-    list::is_listed(l, n, keys, key)
+    false
 }
 
 // Whether a key cannot be peeled: it is among the first n, or one of its first k places has FlowCount 0.
@@ -189,10 +192,10 @@ fn is_damaged(
     key: &[u8],
     flows: &[u16],
     keys: &[u8],
-    seen: &[u64],
+    seen: &[u16],
 ) -> bool
-    requires { ⌜ Within (at .at) 2 1536 × (length (now seen) ≡ 256) × (n * l .key ≤ length (now keys)) × (length (now key) ≡ l .key)
-        × ClearMeansNew l n (now keys) (now key) (now seen) (at .at) × (k ≤ 4) × Within (at .at) k (length (now flows)) ⌝ }
+    requires { ⌜ Within (at .at) 2 1536 × (n ≤ 3072) × (n * l .key ≤ length (now keys)) × (length (now key) ≡ l .key)
+        × LeadsTo l n (now keys) (now key) (bucket (at .at)) (now seen) × (k ≤ 4) × Within (at .at) k (length (now flows)) ⌝ }
     ensures { λ r. ⌜ r ≡ (isListed l n (now (keys .entry)) (now (key .entry)) || anyEmpty (at .at) k (now (flows .entry))) ⌝ }
 {
     if is_found(l, n, at, key, keys, seen) {
@@ -223,7 +226,7 @@ pub fn peel(
     keys: &mut [u8],
     counts: &mut [u32],
     flags: &mut [u8],
-    seen: &mut [u64],
+    seen: &mut [u16],
 ) -> Step
     requires { ⌜ Fits l z salt n (tab (now xors) (now flows) (now unknowns) (now positions) (now marks))
         (records (now keys) (now counts) (now flags)) (now seen) ⌝ }
@@ -250,7 +253,7 @@ pub fn peel(
         return Step::Damaged(c);
     }
     list::append(l, n, &xors[a..e], 0, keys, counts, flags);
-    marks::put_mark(seen, seen_bit(at), true);
+    index::link(seen, bucket(at), n);
     take_out(
         l,
         z,
@@ -300,7 +303,7 @@ pub fn peels(
     keys: &mut [u8],
     counts: &mut [u32],
     flags: &mut [u8],
-    seen: &mut [u64],
+    seen: &mut [u16],
 ) -> Stop
     requires { ⌜ Fits l z salt n (tab (now xors) (now flows) (now unknowns) (now positions) (now marks))
         (records (now keys) (now counts) (now flags)) (now seen) ⌝ }

@@ -48,7 +48,7 @@ use Rattle.summary.specs.declared.Report.{Report}
 use Rattle.summary.specs.declared.State.the-variants.{Whole}
 use Rattle.summary.specs.Report.{countedIn, reportOf}
 use Rattle.session.specs.declared.Settled.the-variants as settled
-use Rattle.session.specs.Calls.{Settling, settlingTo, settleLeaves, settleOf, bitsOf}
+use Rattle.session.specs.Calls.{Settling, settlingTo, settleLeaves, settleOf, indexOf}
 use Rattle.session.proofs.Answers.{Passes}
 use Rattle.session.proofs.Laws.{settle-passes}
 use Rattle.lines.specs.Text.{headLine}
@@ -166,7 +166,7 @@ module _ (z : Sizes) (r : Ranged z) where
     still =
         settle-passes ipv4Layout start opened passes
         ∙ ap (settleLeaves opened)
-        (settle-none ipv4Layout z salt (opened .table) (opened .packets) (opened .list) (bitsOf ipv4Layout start opened)
+        (settle-none ipv4Layout z salt (opened .table) (opened .packets) (opened .list) (indexOf ipv4Layout start opened)
         (marks-none ipv4Layout z salt (xorsIn ipv4Layout z image) (flowsIn ipv4Layout z image) flows-zero))
 
     lines : sessionLines start opened ≡ headLine slot salt emptyReport

@@ -29,7 +29,7 @@ use Rattle.room.proofs.Laws.{tested-sizes, tested-room, tested-rest}
 use Rattle.test8.specs.Test8.{isSession}
 use Rattle.session.specs.declared.Settled.{Settled}
 use Rattle.session.specs.declared.Settled.the-variants as settled
-use Rattle.session.specs.Calls.{Settling, settlingTo, settleAnswer, settleOf, settleNumber, bitsOf}
+use Rattle.session.specs.Calls.{Settling, settlingTo, settleAnswer, settleOf, settleNumber, indexOf}
 use Rattle.session.proofs.Answers.{Passes, rooms, passes-fits}
 use Rattle.session.proofs.Laws.{settle-passes}
 use Rattle.session.proofs.Settled as declared
@@ -59,7 +59,7 @@ settle-high l z salt n t packets rs seen f =
 -- ---- a session that was settled passed the tests
 module _ (l : Layout) (s : Session) (m : Memory) where
   abbrev end : settling.Settled
-  end = settling.settleOf l (s .sizes) (s .salt) (s .listed) (m .table) (m .packets) (m .list) (bitsOf l s m)
+  end = settling.settleOf l (s .sizes) (s .salt) (s .listed) (m .table) (m .packets) (m .list) (indexOf l s m)
 
   -- a refusal is not done
   not-done : {A : Type 0} (a : Settled) {n : ℕ} → 0 < settleNumber a → settleOf l s m ≡ settlingTo a m → settleOf l s m .answer ≡ settled.Done n → A
@@ -82,7 +82,7 @@ module _ (l : Layout) (s : Session) (m : Memory) where
   done-high {n} lays e =
       let p = done-passes e in
       let f = ap (λ (x : Settling). x .answer) (settle-passes l s m p) in
-      let h = settle-high l (s .sizes) (s .salt) (s .listed) (m .table) (m .packets) (m .list) (bitsOf l s m) (passes-fits l s m lays p refl) in
+      let h = settle-high l (s .sizes) (s .salt) (s .listed) (m .table) (m .packets) (m .list) (indexOf l s m) (passes-fits l s m lays p refl) in
       go (end .answer) (sym f ∙ e) h
     where
       go : (a : Stop) → settleAnswer a ≡ settled.Done n → listedAt a ≤ 2 * tableCells l (s .sizes) → n ≤ 2 * tableCells l (s .sizes)

@@ -1,15 +1,14 @@
 // The printing program as a function from bytes to bytes: it opens the image that was read, settles the session and writes the lines.
-// It rests on session for the calls and on lines for the bytes of a line.
+// It rests on session for the calls, on records for a listed flow's key and on lines for the bytes of a line.
 ghost use mathlib.Core.Path.{_≡_};
 ghost use Prim.Native.Nat.{_+_, _*_, _≤_, _<_};
 ghost use lib.ListN.{length};
 ghost use lib.Seq.{sets};
 ghost use Rattle.laws.specs.Upto.{joinUpto};
 ghost use Rattle.layout.specs.Sizes.{ipv4Layout};
-ghost use Rattle.packet.specs.Key.{keyFrom};
 ghost use Rattle.image.specs.Read.{readOf};
 ghost use Rattle.opening.specs.Open.{openNumber};
-ghost use Rattle.list.specs.Records.{records, keyAt};
+ghost use Rattle.list.specs.Records.{records};
 ghost use Rattle.peeling.specs.Table.{tab};
 ghost use Rattle.room.specs.Memory.{memory, Rooms};
 ghost use Rattle.session.specs.Calls.{settleNumber};
@@ -18,7 +17,6 @@ ghost use Rattle.printing.specs.Print.{mostWritten, recordLine, listedLi
 use image::Reading;
 use layout::Sizes;
 use opening::Opened;
-use packet::Key;
 use room::Session;
 use session::Settled;
 
@@ -26,18 +24,6 @@ use session::Settled;
 pub const MOST: usize = 181309;
 
 // ---- listed flows
-
-// The key at position i.
-fn key_at(keys: &[u8], i: usize) -> Key
-    requires { ⌜ i * 13 + 13 ≤ length (now keys) ⌝ }
-    ensures { λ r. ⌜ r ≡ keyFrom (keyAt ipv4Layout (now (keys .entry)) i) ⌝ }
-{
-    let from = i * 13;
-    let to = from + 13;
-    let mut bytes = [0u8; 13];
-    fields::copy_in(&mut bytes, &keys[from..to]);
-    packet::key_from(&bytes)
-}
 
 // Writes the line of record i.
 fn put_record(
@@ -52,7 +38,7 @@ fn put_record(
     ensures { λ r. ⌜ Put (now (out .entry)) (now (out .exit)) at r
         (recordLine (records (now (keys .entry)) (now (counts .entry)) (now (flags .entry))) i) × (r ≤ at + 59) ⌝ }
 {
-    let key = key_at(keys, i);
+    let key = records::key_at(i, keys);
     let known = flags[i] % 2 == 1;
     lines::put_flow(out, at, key, known, counts[i])
 }

@@ -5,7 +5,7 @@ use mathlib.Core.List.{List}
 use mathlib.Core.Logic.{inl, inr}
 use Prim.Native.Nat.{ℕ, _*_, _<_, _≤_}
 use native.Mathlib.Omega.{arith}
-use lib.ListN.{length, getD, replicate, length-replicate}
+use lib.ListN.{length, getD, replicate}
 use Rattle.laws.specs.Upto.{numberUpto}
 use Rattle.laws.proofs.Bools.{split}
 use Rattle.laws.proofs.Lowest.{number-rest}
@@ -15,6 +15,7 @@ use Rattle.layout.specs.Sizes.{Lays, inRange, tableCells}
 use Rattle.layout.proofs.Ranges.{ranged, table-high}
 use Rattle.list.specs.Records.{Records, isHanded}
 use Rattle.peeling.specs.Table.{Tab}
+use Rattle.index.proofs.Index.{empty-zeros}
 use Rattle.peeling.specs.Seen.{Covers}
 use Rattle.peeling.specs.Peel.{Fits}
 use Rattle.peeling.specs.declared.Stop.{Stop}
@@ -32,7 +33,7 @@ use Rattle.handing.specs.Hand as handing
 use Rattle.settling.specs.Settle as settling
 use Rattle.summary.specs.declared.Report.{Report}
 use Rattle.summary.specs.Report.{reportOf}
-use Rattle.session.specs.Calls.{bitsOf, testOf, handingTo, handAnswer, handLeaves, handOver}
+use Rattle.session.specs.Calls.{indexOf, testOf, handingTo, handAnswer, handLeaves, handOver}
 use Rattle.session.specs.Calls.{settlingTo, settleAnswer, settleLeaves, settleOf, reportOn}
 use Rattle.session.specs.declared.Tested.{Tested}
 use Rattle.session.specs.declared.Tested.the-variants as test
@@ -95,7 +96,7 @@ module _ (l : Layout) (s : Session) (m : Memory) where
     pub passes : r ≡ test.Passed → Passes l s m
     passes q = passes-all (sym e ∙ q)
 
--- the bitmap, where not too many flows are listed
+-- the index, where not too many flows are listed
 pub seen-all : (l : Layout) (z : Sizes) (salt n : ℕ) (t : Tab) (rs : Records) (seen : List ℕ) {s : List ℕ} → isSession l z salt n t rs ≡ true
     → s ≡ seenUpto l z salt (cond (overListed l z n) 0 n) (rs .keys) seen → s ≡ seenUpto l z salt n (rs .keys) seen
 seen-all l z salt n t rs seen p e = e ∙ ap (λ b. seenUpto l z salt (cond b 0 n) (rs .keys) seen) (test8.passed l z salt n t rs p .listed-in)
@@ -117,18 +118,18 @@ module _ (l : Layout) (s : Session) (m : Memory) (lays : Lays l) (p : Passes l s
   pub flags-reach : s .listed ≤ length (m .list .flags)
   flags-reach = let h = listed-high in omega (arith, rooms .room .flags-fit)
 
-  pub passes-fits : {seen : List ℕ} → seen ≡ bitsOf l s m → Fits l (s .sizes) (s .salt) (s .listed) (m .table) (m .list) seen
+  pub passes-fits : {seen : List ℕ} → seen ≡ indexOf l s m → Fits l (s .sizes) (s .salt) (s .listed) (m .table) (m .list) seen
   passes-fits e = record {
     table = rooms .table;
     room = rooms .room;
     listed = listed-high;
     covers = subst (Covers l (s .sizes) (s .salt) (s .listed) (m .list .keys)) (sym e)
-        (seen-covers l (s .sizes) (s .salt) (m .list .keys) (replicate 256 0) (s .listed) (length-replicate {A = ℕ} 256 0));
+        (seen-covers l (s .sizes) (s .salt) (m .list .keys) (replicate 11264 0) (s .listed) listed-small empty-zeros);
   }
 
   -- the peeled flows leave room for N that are handed over
   pub passes-hands : (key : List ℕ) {handed : ℕ} {seen : List ℕ} → length key ≡ l .key
-      → handed ≡ numberUpto (s .listed) (λ i. flagSet 1 (getD (m .list .flags) i 0)) → seen ≡ bitsOf l s m
+      → handed ≡ numberUpto (s .listed) (λ i. flagSet 1 (getD (m .list .flags) i 0)) → seen ≡ indexOf l s m
       → handing.Hands l (s .sizes) (s .salt) (s .listed) handed key (m .filter) (m .table) (m .list) seen
   unfolding handedIn peeledIn isHanded
   passes-hands key k h e = record {
@@ -149,7 +150,7 @@ module _ (l : Layout) (s : Session) (m : Memory) {r : Tested} (e : r ≡ testOf 
   -- hand-over
   module _ (key : List ℕ) where
     pub hand-is : choose (handingTo over.NotSession m) (handingTo over.BadRoom m)
-        (handLeaves s m (handing.handOf l (s .sizes) (s .salt) (s .listed) key (m .filter) (m .table) (m .list) (bitsOf l s m))) r
+        (handLeaves s m (handing.handOf l (s .sizes) (s .salt) (s .listed) key (m .filter) (m .table) (m .list) (indexOf l s m))) r
         ≡ handOver l s key m
     unfolding handOver
     hand-is = way l s m e _ _ _
@@ -160,7 +161,7 @@ module _ (l : Layout) (s : Session) (m : Memory) {r : Tested} (e : r ≡ testOf 
     pub hand-room : r ≡ test.BadRoom → handingTo over.BadRoom m ≡ handOver l s key m
     hand-room q = (rw q at hand-is)
 
-    pub hand-passed : {a : Handed} {t : Tab} {rs : Records} {seen seen′ : List ℕ} {b : HandOver} → r ≡ test.Passed → seen ≡ bitsOf l s m
+    pub hand-passed : {a : Handed} {t : Tab} {rs : Records} {seen seen′ : List ℕ} {b : HandOver} → r ≡ test.Passed → seen ≡ indexOf l s m
         → handing.handing a t rs seen′ ≡ handing.handOf l (s .sizes) (s .salt) (s .listed) key (m .filter) (m .table) (m .list) seen
         → b ≡ handAnswer (s .listed) a → handingTo b (memory (m .filter) t (m .packets) rs) ≡ handOver l s key m
     hand-passed {t = t} {rs = rs} q u g h =
@@ -170,7 +171,7 @@ module _ (l : Layout) (s : Session) (m : Memory) {r : Tested} (e : r ≡ testOf 
 
   -- settling
   pub settle-is : choose (settlingTo settled.NotSession m) (settlingTo settled.BadRoom m)
-      (settleLeaves m (settling.settleOf l (s .sizes) (s .salt) (s .listed) (m .table) (m .packets) (m .list) (bitsOf l s m))) r
+      (settleLeaves m (settling.settleOf l (s .sizes) (s .salt) (s .listed) (m .table) (m .packets) (m .list) (indexOf l s m))) r
       ≡ settleOf l s m
   unfolding settleOf
   settle-is = way l s m e _ _ _
@@ -182,7 +183,7 @@ module _ (l : Layout) (s : Session) (m : Memory) {r : Tested} (e : r ≡ testOf 
   settle-room q = (rw q at settle-is)
 
   pub settle-passed : {a : Stop} {t : Tab} {packets : List ℕ} {rs : Records} {seen seen′ : List ℕ} {b : Settled} → r ≡ test.Passed
-      → seen ≡ bitsOf l s m
+      → seen ≡ indexOf l s m
       → settling.settled a t packets rs seen′ ≡ settling.settleOf l (s .sizes) (s .salt) (s .listed) (m .table) (m .packets) (m .list) seen
       → b ≡ settleAnswer a → settlingTo b (memory (m .filter) t packets rs) ≡ settleOf l s m
   settle-passed {t = t} {packets = packets} {rs = rs} q u g h =

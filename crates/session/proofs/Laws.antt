@@ -28,19 +28,19 @@ use Rattle.session.specs.declared.Tested.the-variants as test
 use Rattle.session.specs.declared.HandOver.the-variants as over
 use Rattle.session.specs.declared.Settled.the-variants as settled
 use Rattle.session.specs.declared.Reported.the-variants as reported
-use Rattle.session.specs.Calls.{bitsOf, testOf, Handing, handingTo, handAnswer, handLeaves, handOver, handOverNumber}
+use Rattle.session.specs.Calls.{indexOf, testOf, Handing, handingTo, handAnswer, handLeaves, handOver, handOverNumber}
 use Rattle.session.specs.Calls.{Settling, settlingTo, settleAnswer, settleLeaves, settleOf, settleNumber, reportOn}
 use Rattle.session.proofs.Answers.{Passes, choose, hand-is, settle-is}
 
 -- ---- a session that passes the tests
 module _ (l : Layout) (s : Session) (m : Memory) (p : Passes l s m) where
   pub hand-over-passes : (key : List ℕ) → handOver l s key m
-      ≡ handLeaves s m (handing.handOf l (s .sizes) (s .salt) (s .listed) key (m .filter) (m .table) (m .list) (bitsOf l s m))
+      ≡ handLeaves s m (handing.handOf l (s .sizes) (s .salt) (s .listed) key (m .filter) (m .table) (m .list) (indexOf l s m))
   unfolding handOver
   hand-over-passes key = tested-passed l s m _ _ _ (p .sizes) (p .room) (p .rest)
 
   pub settle-passes : settleOf l s m
-      ≡ settleLeaves m (settling.settleOf l (s .sizes) (s .salt) (s .listed) (m .table) (m .packets) (m .list) (bitsOf l s m))
+      ≡ settleLeaves m (settling.settleOf l (s .sizes) (s .salt) (s .listed) (m .table) (m .packets) (m .list) (indexOf l s m))
   unfolding settleOf
   settle-passes = tested-passed l s m _ _ _ (p .sizes) (p .room) (p .rest)
 
@@ -72,12 +72,12 @@ same-number n hand.TooMany = refl
 module _ (l : Layout) (s : Session) (m : Memory) where
   module _ (key : List ℕ) where
     abbrev handed : handing.Handing
-    handed = handing.handOf l (s .sizes) (s .salt) (s .listed) key (m .filter) (m .table) (m .list) (bitsOf l s m)
+    handed = handing.handOf l (s .sizes) (s .salt) (s .listed) key (m .filter) (m .table) (m .list) (indexOf l s m)
 
     leaves-kept : 0 < handOverNumber (handAnswer (s .listed) (handed .answer)) → handLeaves s m handed .room ≡ m
     leaves-kept h =
         ap (λ (x : handing.Handing). memory (m .filter) (x .table) (m .packets) (x .list))
-        (hand-kept l (s .sizes) (s .salt) (s .listed) key (m .filter) (m .table) (m .list) (bitsOf l s m) {r = handed .answer} {t′ = handed .table}
+        (hand-kept l (s .sizes) (s .salt) (s .listed) key (m .filter) (m .table) (m .list) (indexOf l s m) {r = handed .answer} {t′ = handed .table}
         {rs′ = handed .list} {seen′ = handed .seen} refl (omega (arith, same-number (s .listed) (handed .answer))))
 
     way-kept : (t : Tested)
@@ -101,7 +101,7 @@ module _ (l : Layout) (s : Session) (m : Memory) where
   never (stop.Damaged n c) h = absurd (elim h [ inl e ↦ omega arith | inr e ↦ omega arith ])
 
   abbrev settledTo : settling.Settled
-  settledTo = settling.settleOf l (s .sizes) (s .salt) (s .listed) (m .table) (m .packets) (m .list) (bitsOf l s m)
+  settledTo = settling.settleOf l (s .sizes) (s .salt) (s .listed) (m .table) (m .packets) (m .list) (indexOf l s m)
 
   end-kept : (t : Tested)
       → let x = choose (settlingTo settled.NotSession m) (settlingTo settled.BadRoom m) (settleLeaves m settledTo) t in

@@ -23,9 +23,9 @@ use Rattle.session.specs.declared.Settled.the-variants as settled
 use Rattle.session.specs.declared.Reported.{Reported}
 use Rattle.session.specs.declared.Reported.the-variants as reported
 
--- a bit for each listed key, as the test of 8 leaves them; they shorten the search for a key and decide nothing
-abbrev pub bitsOf : Layout → Session → Memory → List ℕ
-bitsOf l s m = seenUpto l (s .sizes) (s .salt) (s .listed) (m .list .keys) (replicate 256 0)
+-- the index of the listed keys, as the test of 8 leaves it; it shortens the search for a key and decides nothing
+abbrev pub indexOf : Layout → Session → Memory → List ℕ
+indexOf l s m = seenUpto l (s .sizes) (s .salt) (s .listed) (m .list .keys) (replicate 11264 0)
 
 -- what the tests of every call answer: 01's table of numbers, 8 and 16
 abbrev pub testOf : Layout → Session → Memory → Tested
@@ -55,7 +55,7 @@ handLeaves s m h = handingTo (handAnswer (s .listed) (h .answer)) (memory (m .fi
 unfoldable pub handOver : Layout → Session → List ℕ → Memory → Handing
 handOver l s key m =
     tested l s m (handingTo over.NotSession m) (handingTo over.BadRoom m)
-    (handLeaves s m (handing.handOf l (s .sizes) (s .salt) (s .listed) key (m .filter) (m .table) (m .list) (bitsOf l s m)))
+    (handLeaves s m (handing.handOf l (s .sizes) (s .salt) (s .listed) key (m .filter) (m .table) (m .list) (indexOf l s m)))
 
 -- 01's number for each answer
 abbrev pub handOverNumber : HandOver → ℕ
@@ -87,7 +87,7 @@ settleLeaves m e = settlingTo (settleAnswer (e .answer)) (memory (m .filter) (e 
 unfoldable pub settleOf : Layout → Session → Memory → Settling
 settleOf l s m =
     tested l s m (settlingTo settled.NotSession m) (settlingTo settled.BadRoom m)
-    (settleLeaves m (settling.settleOf l (s .sizes) (s .salt) (s .listed) (m .table) (m .packets) (m .list) (bitsOf l s m)))
+    (settleLeaves m (settling.settleOf l (s .sizes) (s .salt) (s .listed) (m .table) (m .packets) (m .list) (indexOf l s m)))
 
 -- 01's number and cell for each answer
 abbrev pub settleNumber : Settled → ℕ

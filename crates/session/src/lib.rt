@@ -9,6 +9,7 @@ ghost use Rattle.packet.specs.Key.{keyBytes};
 ghost use Rattle.peeling.specs.Table.{tab};
 ghost use Rattle.room.specs.Memory.{memory};
 ghost use Rattle.opening.specs.Open.{opening, openOf};
+ghost use Rattle.index.specs.Index.{Empty};
 ghost use Rattle.test8.specs.Given.{seenUpto};
 ghost use Rattle.session.specs.declared.Tested.the-variants as tests;
 ghost use Rattle.session.specs.Calls.{testOf, handingTo, handAnswer, handOver, settlingTo, settleAnswer, settleOf, reportOn};
@@ -93,7 +94,7 @@ pub fn open(
     )
 }
 
-// The tests of every call on a session. Where all are passed, the bitmap has got a bit for each listed key.
+// The tests of every call on a session. Where all are passed, the index has got each listed key.
 fn test(
     l: Layout,
     s: Session,
@@ -107,9 +108,9 @@ fn test(
     keys: &[u8],
     counts: &[u32],
     flags: &[u8],
-    seen: &mut [u64],
+    seen: &mut [u16],
 ) -> Tested
-    requires { ⌜ Lays l × (length (now seen) ≡ 256) ⌝ }
+    requires { ⌜ Lays l × Empty (now seen) ⌝ }
     ensures { λ r. ⌜ (r ≡ testOf l s (memory (now (filter .entry))
         (tab (now (xors .entry)) (now (flows .entry)) (now (unknowns .entry)) (now (positions .entry)) (now (marks .entry))) (now (packets .entry))
         (records (now (keys .entry)) (now (counts .entry)) (now (flags .entry)))))
@@ -194,7 +195,7 @@ pub fn hand_over_in(
         (tab (now (xors .entry)) (now (flows .entry)) (now (unknowns .entry)) (now (positions .entry)) (now (marks .entry)))
         (now (packets .entry)) (records (now (keys .entry)) (now (counts .entry)) (now (flags .entry)))) ⌝ }
 {
-    let mut seen = [0u64; 256];
+    let mut seen = [0u16; 11264];
     match test(
         l,
         s,
@@ -309,7 +310,7 @@ pub fn settle_in(
         (tab (now (xors .entry)) (now (flows .entry)) (now (unknowns .entry)) (now (positions .entry)) (now (marks .entry)))
         (now (packets .entry)) (records (now (keys .entry)) (now (counts .entry)) (now (flags .entry)))) ⌝ }
 {
-    let mut seen = [0u64; 256];
+    let mut seen = [0u16; 11264];
     match test(
         l,
         s,
@@ -405,7 +406,7 @@ pub fn report_in(
         (tab (now (xors .entry)) (now (flows .entry)) (now (unknowns .entry)) (now (positions .entry)) (now (marks .entry)))
         (now (packets .entry)) (records (now (keys .entry)) (now (counts .entry)) (now (flags .entry)))) ⌝ }
 {
-    let mut seen = [0u64; 256];
+    let mut seen = [0u16; 11264];
     match test(
         l,
         s,

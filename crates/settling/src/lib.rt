@@ -35,7 +35,7 @@ pub fn settle_all(
     keys: &mut [u8],
     counts: &mut [u32],
     flags: &mut [u8],
-    seen: &mut [u64],
+    seen: &mut [u16],
 ) -> Stop
     requires { ⌜ Fits l z salt n (tab (now xors) (now flows) (now unknowns) (now positions) (now marks))
         (records (now keys) (now counts) (now flags)) (now seen) × (length (now packets) ≡ tableCells l z) ⌝ }

@@ -101,7 +101,7 @@ numbers-is n flows rs e =
     let q : n - numberUpto n p ≡ numberUpto n (λ i. not (p i)) = omega (arith, number-rest n p) in
     rw (e, q)
 
--- the bitmap where not too many flows are listed
+-- the index where not too many flows are listed
 pub seen-in : (l : Layout) (z : Sizes) (salt n : ℕ)
     (keys seen : List ℕ) {s : List ℕ} → overListed l z n ≡ false → s ≡ seenUpto l z salt n keys seen
     → s ≡ seenUpto l z salt (cond (overListed l z n) 0 n) keys seen

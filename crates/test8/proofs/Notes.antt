@@ -1,10 +1,11 @@
--- The two numbers of each cell and the bitmap, as one pass over the list leaves them, are what cells and list give.
+-- The two numbers of each cell and the index, as one pass over the list leaves them, are what cells and list give.
 use mathlib.Core.Path.{_≡_, refl, sym, ap, _∙_, subst}
 use mathlib.Core.Bool.{Bool, true, not, cond, _||_}
 use mathlib.Core.List.{List}
 use mathlib.Core.Logic.{inl, inr}
 use Prim.Native.Nat.{ℕ, zero, suc, _+_, _*_, _^_, _/_, _≤_, _<_}
 use native.Mathlib.Decide.{ℕ-discrete}
+use native.Mathlib.Numerals.{add-one}
 use native.Mathlib.Nat.{div-mul-le-self, lt-div-mul-add}
 use native.Mathlib.Omega.{arith}
 use lib.ListN.{length, getD, set, replicate, length-replicate}
@@ -18,13 +19,12 @@ use Rattle.layout.specs.Sizes.{Lays, Ranged, partCells, tableCells}
 use Rattle.layout.proofs.Ranges.{part-low, table-high}
 use Rattle.hash.specs.Places.{cellOf, hasCell, Within}
 use Rattle.hash.proofs.Apart.{cell-within, cells-differ, places-within}
+use Rattle.index.specs.Index.{Empty, linked}
+use Rattle.index.proofs.Index.{length-linked, indexes-none, indexes-more}
 use Rattle.list.specs.Records.{Records, records, keyAt, isKnown, isListed}
-use Rattle.marks.specs.Marks.{marked, putMark}
-use Rattle.marks.proofs.Laws.{length-put, marked-same, marked-other}
-use Rattle.list.proofs.Laws.{length-key}
 use Rattle.peeling.specs.Table.{InPart}
-use Rattle.peeling.specs.Seen.{seenBit, seenBitOf, Covers, ClearMeansNew}
-use Rattle.peeling.proofs.Seen.{clear-new}
+use Rattle.peeling.specs.Seen.{bucket, bucketOf, Covers, LeadsTo}
+use Rattle.peeling.proofs.Seen.{leads}
 use Rattle.test8.specs.Given.{flagSet, renewed, oneMore, mixedIn, noted, seenUpto}
 use Rattle.test8.specs.Test8.{keysRepeat, unknownIn, unknownsGiven, positionsGiven}
 use Rattle.laws.proofs.Lowest.{count-wraps}
@@ -119,39 +119,27 @@ module _ (l : Layout) (z : Sizes) (lays : Lays l) (r : Ranged z) (salt : ℕ) wh
       let low = part-low l z lays r in
       record { inside = h; from = rw (← e) (div-mul-le-self c s); to = rw (← e) (lt-div-mul-add {a = c} {b = s} (omega arith)) }
 
--- ---- the bitmap
+-- ---- the index
 module _ (l : Layout) (z : Sizes) (salt : ℕ) (keys seen : List ℕ) where
-  pub seen-turn : (i : ℕ) {s t : List ℕ} {bit : ℕ} → bit ≡ seenBitOf l z salt (keyAt l keys i) → s ≡ seenUpto l z salt i keys seen
-      → t ≡ putMark s bit true → t ≡ seenUpto l z salt (i + 1) keys seen
+  pub seen-turn : (i : ℕ) {s t : List ℕ} {own : ℕ} → own ≡ bucketOf l z salt (keyAt l keys i) → s ≡ seenUpto l z salt i keys seen
+      → t ≡ linked s own i → t ≡ seenUpto l z salt (i + 1) keys seen
   unfolding seenUpto
-  seen-turn i e f g = g ∙ rw (e, f) (sym (each-more i (λ j s. putMark s (seenBitOf l z salt (keyAt l keys j)) true) seen))
+  seen-turn i e f g = g ∙ rw (e, f) (sym (each-more i (λ j s. linked s (bucketOf l z salt (keyAt l keys j)) j) seen))
 
   pub length-seen : (n : ℕ) → length (seenUpto l z salt n keys seen) ≡ length seen
   unfolding seenUpto eachUpto
   length-seen zero = refl
-  length-seen (suc n) = length-put (seenUpto l z salt n keys seen) (seenBitOf l z salt (keyAt l keys n)) true ∙ length-seen n
+  length-seen (suc n) = length-linked (seenUpto l z salt n keys seen) (bucketOf l z salt (keyAt l keys n)) n ∙ length-seen n
 
-  -- the bit of each of the first n keys is set
-  pub seen-bits : (n : ℕ) → length seen ≡ 256 → (i : ℕ) → i < n → marked (seenUpto l z salt n keys seen)
-      (seenBitOf l z salt (keyAt l keys i)) ≡ true
+  -- each of the first n keys is in it
+  pub seen-covers : (n : ℕ) → n ≤ 3072 → Empty seen → Covers l z salt n keys (seenUpto l z salt n keys seen)
   unfolding seenUpto eachUpto
-  seen-bits zero e i h = absurd (omega arith)
-  seen-bits (suc n) e i h =
-      let s = seenUpto l z salt n keys seen in
-      let bit = seenBitOf l z salt (keyAt l keys n) in
-      let j = seenBitOf l z salt (keyAt l keys i) in
-      elim (ℕ-discrete j bit) [
-        | yes q ↦ ap (marked (putMark s bit true)) q ∙ marked-same s bit true (omega (arith, length-seen n))
-        | no q ↦ elim (ℕ-discrete i n) [
-          | yes p ↦ absurd (q (ap (λ m. seenBitOf l z salt (keyAt l keys m)) p))
-          | no p ↦ marked-other s bit true j q ∙ seen-bits n e i (omega arith)
-        ]
-      ]
+  seen-covers zero h e = indexes-none (λ i. bucketOf l z salt (keyAt l keys i)) seen e
+  seen-covers (suc n) h e =
+      subst (λ m. Covers l z salt m keys (seenUpto l z salt (suc n) keys seen)) (add-one n)
+      (indexes-more (λ i. bucketOf l z salt (keyAt l keys i)) n (seenUpto l z salt n keys seen) (seen-covers n (omega arith) e) (omega arith) (omega arith))
 
-  pub seen-covers : (n : ℕ) → length seen ≡ 256 → Covers l z salt n keys (seenUpto l z salt n keys seen)
-  seen-covers n e = record { words = length-seen n ∙ e; bits = seen-bits n e }
-
--- ---- one listed flow: its places, its bit, and whether its key stood before
+-- ---- one listed flow: its places, its bucket, and whether its key stood before
 module _ (l : Layout) (z : Sizes) (lays : Lays l) (r : Ranged z) (salt : ℕ) where
   pub places-small : (key : List ℕ) {at : List ℕ} → at ≡ listUpto 4 (cellOf l z salt key) → Within at 2 1536
   places-small key e j h = omega (arith, places-within l z lays r salt key e j (omega (arith, r .k-low)), table-high l z lays r)
@@ -160,16 +148,14 @@ module _ (l : Layout) (z : Sizes) (lays : Lays l) (r : Ranged z) (salt : ℕ) wh
   places-wide key s q e j h = omega (arith, places-within l z lays r salt key e j h, table-high l z lays r)
 
 module _ (l : Layout) (z : Sizes) (salt : ℕ) (keys : List ℕ) (i : ℕ) {key at : List ℕ} where
-  -- a clear bit means that the key is not among the first i
-  pub clear-here : (seen : List ℕ) {s : List ℕ} → i * l .key + l .key ≤ length keys → length seen ≡ 256 → key ≡ keyAt l keys i
-      → at ≡ listUpto 4 (cellOf l z salt key) → s ≡ seenUpto l z salt i keys seen → ClearMeansNew l i keys key s at
-  clear-here seen {s} h e k q f =
-      clear-new l z salt i keys s (subst (Covers l z salt i keys) (sym f) (seen-covers l z salt keys seen i e)) key (omega arith)
-      (ap length k ∙ length-key l keys i h) q
+  -- the bucket leads to the key, where it is among the first i
+  pub leads-here : (seen : List ℕ) {s : List ℕ} → i ≤ 3072 → Empty seen → at ≡ listUpto 4 (cellOf l z salt key) → s ≡ seenUpto l z salt i keys seen
+      → LeadsTo l i keys key (bucket at) s
+  leads-here seen {s} h e q f = leads l z salt i keys s (subst (Covers l z salt i keys) (sym f) (seen-covers l z salt keys seen i h e)) key q
 
-  pub bit-here : {bit : ℕ} → key ≡ keyAt l keys i → at ≡ listUpto 4 (cellOf l z salt key) → bit ≡ seenBit at
-      → bit ≡ seenBitOf l z salt (keyAt l keys i)
-  bit-here k q f = f ∙ ap seenBit (q ∙ ap (λ x. listUpto 4 (cellOf l z salt x)) k)
+  pub bucket-here : {own : ℕ} → key ≡ keyAt l keys i → at ≡ listUpto 4 (cellOf l z salt key) → own ≡ bucket at
+      → own ≡ bucketOf l z salt (keyAt l keys i)
+  bucket-here k q f = f ∙ ap bucket (q ∙ ap (λ x. listUpto 4 (cellOf l z salt x)) k)
 
 -- one key more
 pub repeat-turn : (l : Layout) (keys : List ℕ) (i : ℕ) {key : List ℕ} {a b t : Bool} → key ≡ keyAt l keys i → a ≡ keysRepeat l i keys

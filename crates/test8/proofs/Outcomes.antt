@@ -8,8 +8,6 @@ use Rattle.test8.proofs.open_in.Kinds as open-in-kinds
 use Rattle.test8.proofs.open_in.Reads as open-in
 use Rattle.test8.proofs.is_session_seen.Kinds as is-session-seen-kinds
 use Rattle.test8.proofs.is_session_seen.Reads as is-session-seen
-use Rattle.test8.proofs.is_session.Kinds as is-session-kinds
-use Rattle.test8.proofs.is_session.Reads as is-session
 
 pub flagged-in-determined : Determined _ flagged-in-kinds.ps flagged-in-kinds.r flagged-in.Asked flagged-in.Learnt
 flagged-in-determined κs a p z z′ ws ws′ e e′ = (e .0 ∙ sym (e′ .0), refl)
@@ -23,6 +21,3 @@ is-session-seen-determined κs a p z z′ ws ws′ e e′ = (
   both refl (both refl (both refl (both refl (both refl (both refl
       (both refl (both refl (both refl (both refl (both refl (both refl (both (e .1 ∙ sym (e′ .1)) refl)))))))))))),
 )
-
-pub is-session-determined : Determined _ is-session-kinds.ps is-session-kinds.r is-session.Asked is-session.Learnt
-is-session-determined κs a p z z′ ws ws′ e e′ = (e ∙ sym e′, refl)

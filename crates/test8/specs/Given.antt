@@ -1,4 +1,4 @@
--- What the test works out anew: the flags of a record, the per-cell numbers that a list gives, and the bitmap of its keys.
+-- What the test works out anew: the flags of a record, the per-cell numbers that a list gives, and the index of its keys.
 use mathlib.Core.Bool.{Bool, true, cond}
 use mathlib.Core.List.{List}
 use Prim.Native.Nat.{ℕ, _+_, _%_, _^_}
@@ -11,8 +11,8 @@ use Rattle.layout.specs.declared.Layout.{Layout}
 use Rattle.layout.specs.declared.Sizes.{Sizes}
 use Rattle.hash.specs.Places.{cellOf}
 use Rattle.list.specs.Records.{keyAt}
-use Rattle.marks.specs.Marks.{putMark}
-use Rattle.peeling.specs.Seen.{seenBitOf}
+use Rattle.index.specs.Index.{linked}
+use Rattle.peeling.specs.Seen.{bucketOf}
 
 -- a bit of a record's flags: bit 0 known, bit 1 handed
 abbrev pub flagSet : ℕ → ℕ → Bool
@@ -34,6 +34,6 @@ unfoldable pub noted : Layout → Sizes → ℕ → (ℕ → ℕ → ℕ) → �
 noted l z salt new n keys flags s =
     eachUpto n (λ i t. cond (flagSet 0 (getD flags i 0)) t (renewed (new i) (cellOf l z salt (keyAt l keys i)) (z .k) t)) s
 
--- the bits of the first n keys set in a bitmap
+-- the first n keys noted in an index
 unfoldable pub seenUpto : Layout → Sizes → ℕ → ℕ → List ℕ → List ℕ → List ℕ
-seenUpto l z salt n keys seen = eachUpto n (λ i s. putMark s (seenBitOf l z salt (keyAt l keys i)) true) seen
+seenUpto l z salt n keys seen = eachUpto n (λ i s. linked s (bucketOf l z salt (keyAt l keys i)) i) seen

@@ -1,5 +1,5 @@
 // The test of 8: whether lent memory is a session, all of it worked out anew from cells and list, in one pass over each.
-// It rests on list and marks, on hash for a flow's cells, and on peeling for pure cells and for the bitmap of listed flows.
+// It rests on list and marks, on hash for a flow's cells, and on peeling and index for pure cells and for finding listed flows.
 ghost use mathlib.Core.Path.{_≡_};
 ghost use mathlib.Core.Bool.{cond, _&&_, _||_};
 ghost use Prim.Native.Nat.{_+_, _-_, _*_, _<_, _≤_};
@@ -8,6 +8,7 @@ ghost use lib.ListN.{length, getD};
 ghost use Rattle.laws.specs.Upto.{anyUpto, allUpto, numberUpto};
 ghost use Rattle.layout.specs.Sizes.{Lays, Ranged, tableCells};
 ghost use Rattle.list.specs.Records.{records, Room};
+ghost use Rattle.index.specs.Index.{Empty};
 ghost use Rattle.marks.specs.Marks.{wordsFor};
 ghost use Rattle.peeling.specs.Table.{tab, Fit};
 ghost use Rattle.hash.specs.Places.{Within};
@@ -165,7 +166,7 @@ fn note_flow(
     note_at(at, k, position, unknowns, positions);
 }
 
-// One pass over the first n flows, each placed once: whether keys repeat, a bit set for each key, and the two numbers of the cells.
+// One pass over the first n flows, each placed once: whether keys repeat, each key noted in the index, and the two numbers of the cells.
 fn note_list(
     l: Layout,
     z: Sizes,
@@ -173,11 +174,11 @@ fn note_list(
     n: usize,
     keys: &[u8],
     flags: &[u8],
-    seen: &mut [u64],
+    seen: &mut [u16],
     unknowns: &mut [u16],
     positions: &mut [u16],
 ) -> bool
-    requires { ⌜ Lays l × Ranged z × (n ≤ 3072) × (n * l .key ≤ length (now keys)) × (n ≤ length (now flags)) × (length (now seen) ≡ 256)
+    requires { ⌜ Lays l × Ranged z × (n ≤ 3072) × (n * l .key ≤ length (now keys)) × (n ≤ length (now flags)) × Empty (now seen)
         × (length (now unknowns) ≡ 1536) × (length (now positions) ≡ 1536) ⌝ }
     ensures { λ r. ⌜ (r ≡ keysRepeat l n (now (keys .entry))) × (now (seen .exit) ≡ seenUpto l z salt n (now (keys .entry)) (now (seen .entry)))
         × (now (unknowns .exit) ≡ noted l z salt oneMore n (now (keys .entry)) (now (flags .entry)) (now (unknowns .entry)))
@@ -190,7 +191,7 @@ fn note_list(
         let e = a + l.key;
         let at = hash::cells_of(l, z, salt, &keys[a..e]);
         repeat = either(repeat, peeling::is_found(l, i, at, &keys[a..e], keys, seen));
-        marks::put_mark(seen, peeling::seen_bit(at), true);
+        index::link(seen, peeling::bucket(at), i);
         note_flow(at, z.k, flags[i], i as u16, unknowns, positions);
         i += 1;
     }
@@ -246,7 +247,7 @@ fn same_numbers(n: usize, numbers: &[u16], wanted: &[u16]) -> bool
     true
 }
 
-// Whether the lent memory is a session. The bitmap gets a bit for each listed key, for the calls that then look keys up.
+// Whether the lent memory is a session. The index gets each listed key, for the calls that then look keys up.
 pub fn is_session_seen(
     l: Layout,
     z: Sizes,
@@ -260,10 +261,10 @@ pub fn is_session_seen(
     keys: &[u8],
     counts: &[u32],
     flags: &[u8],
-    seen: &mut [u64],
+    seen: &mut [u16],
 ) -> bool
     requires { ⌜ Fit l z (tab (now xors) (now flows) (now unknowns) (now positions) (now marks))
-        × Room l (2 * tableCells l z) (records (now keys) (now counts) (now flags)) × (length (now seen) ≡ 256) ⌝ }
+        × Room l (2 * tableCells l z) (records (now keys) (now counts) (now flags)) × Empty (now seen) ⌝ }
     ensures { λ r. ⌜ (r ≡ isSession l z salt n
         (tab (now (xors .entry)) (now (flows .entry)) (now (unknowns .entry)) (now (positions .entry)) (now (marks .entry)))
         (records (now (keys .entry)) (now (counts .entry)) (now (flags .entry))))
@@ -294,43 +295,4 @@ pub fn is_session_seen(
         return false;
     }
     same_numbers(cells, positions, &ps)
-}
-
-// Whether the lent memory is a session.
-pub fn is_session(
-    l: Layout,
-    z: Sizes,
-    salt: u32,
-    n: usize,
-    xors: &[u8],
-    flows: &[u16],
-    unknowns: &[u16],
-    positions: &[u16],
-    marks: &[u64],
-    keys: &[u8],
-    counts: &[u32],
-    flags: &[u8],
-) -> bool
-    requires { ⌜ Fit l z (tab (now xors) (now flows) (now unknowns) (now positions) (now marks))
-        × Room l (2 * tableCells l z) (records (now keys) (now counts) (now flags)) ⌝ }
-    ensures { λ r. ⌜ r ≡ isSession l z salt n
-        (tab (now (xors .entry)) (now (flows .entry)) (now (unknowns .entry)) (now (positions .entry)) (now (marks .entry)))
-        (records (now (keys .entry)) (now (counts .entry)) (now (flags .entry))) ⌝ }
-{
-    let mut seen = [0u64; 256];
-    is_session_seen(
-        l,
-        z,
-        salt,
-        n,
-        xors,
-        flows,
-        unknowns,
-        positions,
-        marks,
-        keys,
-        counts,
-        flags,
-        &mut seen,
-    )
 }

@@ -1,6 +1,7 @@
 //! The Rattle library beside this program's own engines, in one run on the same fresh inputs: medians and ratios, and a plot.
 //!
 //! usage: benchmark SEED RUNS [PLOT.svg]
+//!        benchmark count rattle|own SEED STEPS packet|image K KF|LOAD
 //!
 //! Each input is made anew and used once by each side, in turns first, so that neither finds it in the caches more often. The library works in
 //! one room that is lent again and again and not cleared between; this program allocates its own at each opening.
@@ -10,6 +11,7 @@ mod bytes;
 mod counters;
 mod encoder;
 mod engine;
+mod exchange;
 mod flow;
 mod flowsets;
 mod hash;
@@ -56,9 +58,15 @@ const PACKET_SIZES: [(u8, u8); 5] = [(2, 4), (3, 4), (3, 8), (4, 4), (4, 8)];
 const LOADS: [usize; 8] = [10, 20, 30, 40, 50, 60, 70, 80];
 /// Rescanning takes so much longer that so many inputs must do.
 const RESCANNED: usize = 5;
+/// Loads of two switches that share all flows.
+const SHARED: [usize; 6] = [80, 90, 100, 110, 120, 130];
 
 fn main() {
     let words: Vec<String> = std::env::args().skip(1).collect();
+    if words.first().is_some_and(|word| word == "count") {
+        println!("{}", count(&words[1..]).expect("the words of a count"));
+        return;
+    }
     let (Some(seed), Some(runs)) = (number(&words, 0), number(&words, 1)) else {
         eprintln!("usage: benchmark SEED RUNS [PLOT.svg]");
         std::process::exit(2);
@@ -69,6 +77,7 @@ fn main() {
     opening(random, runs as usize);
     let curves = [3, 4].map(|k| settling(random, runs as usize, k));
     handing(random, runs as usize);
+    exchanging(random, runs as usize);
     if let Some(path) = words.get(2) {
         std::fs::write(path, time_plot::plot(&LOADS, &curves)).expect("the plot is written");
     }
@@ -160,6 +169,58 @@ impl Room {
             counts: vec![0; 2 * n],
             flags: vec![0; 2 * n],
         }
+    }
+
+    /// Room for two sessions of the same sizes, joined.
+    fn joined(sizes: Sizes) -> Self {
+        let mut room = Room::new(sizes);
+        room.filter.extend_from_within(..);
+        room.xors.extend_from_within(..);
+        room.flows.extend_from_within(..);
+        room.packets.extend_from_within(..);
+        room.unknowns.extend_from_within(..);
+        room.positions.extend_from_within(..);
+        room.marks.extend_from_within(..);
+        room.keys.extend_from_within(..);
+        room.counts.extend_from_within(..);
+        room.flags.extend_from_within(..);
+        room
+    }
+
+    /// The room of each of two sessions.
+    fn halves(&mut self) -> [Lent<'_>; 2] {
+        fn cut<T>(all: &mut [T]) -> (&mut [T], &mut [T]) {
+            all.split_at_mut(all.len() / 2)
+        }
+        let (filter, xors, flows) = (cut(&mut self.filter), cut(&mut self.xors), cut(&mut self.flows));
+        let (packets, unknowns) = (cut(&mut self.packets), cut(&mut self.unknowns));
+        let (positions, marks) = (cut(&mut self.positions), cut(&mut self.marks));
+        let (keys, counts, flags) = (cut(&mut self.keys), cut(&mut self.counts), cut(&mut self.flags));
+        let first = Lent {
+            filter: filter.0,
+            xors: xors.0,
+            flows: flows.0,
+            packets: packets.0,
+            unknowns: unknowns.0,
+            positions: positions.0,
+            marks: marks.0,
+            keys: keys.0,
+            counts: counts.0,
+            flags: flags.0,
+        };
+        let second = Lent {
+            filter: filter.1,
+            xors: xors.1,
+            flows: flows.1,
+            packets: packets.1,
+            unknowns: unknowns.1,
+            positions: positions.1,
+            marks: marks.1,
+            keys: keys.1,
+            counts: counts.1,
+            flags: flags.1,
+        };
+        [first, second]
     }
 
     fn lend(&mut self) -> Lent<'_> {
@@ -304,4 +365,87 @@ fn handing(random: &mut Random, runs: usize) {
         }
         line(&format!("k = {k}, N = {}", sizes.cells()), pair.per(50_000.0));
     }
+}
+
+/// Two switches with salts of their own that took the same flows; the tests of both sessions are part of it.
+fn exchanging(random: &mut Random, runs: usize) {
+    println!("\nexchange with tests, all flows shared     Rattle us  independent us  ratio   (listed by both)");
+    for k in [3, 4] {
+        let sizes = Sizes { kf: 7, f: 16, k, q: 16 };
+        for load in SHARED {
+            let (mut pair, mut listed, mut room) = (Pair::default(), Vec::new(), Room::joined(sizes));
+            for _ in 0..runs {
+                let (flows, slot) = (random_flows(random, sizes.cells() * load / 100), random.u32());
+                let images = [(); 2].map(|()| {
+                    let header = Header { sizes, salt: random.u32(), slot };
+                    encode(random, header, &flows).sealed()
+                });
+                let [mut first, mut second] = room.halves();
+                let mut a = elderflute::open(&images[0], slot, &mut first).expect("a good image");
+                let mut b = elderflute::open(&images[1], slot, &mut second).expect("a good image");
+                let (mut own_a, mut own_b) = (opened::<Marked>(&images[0], slot), opened::<Marked>(&images[1], slot));
+                pair.add(
+                    || time(|| elderflute::exchange(&mut a, &mut b, &mut room.lend()).is_ok()).0,
+                    || time(|| exchange::exchange(&mut own_a, &mut own_b).is_ok()).0,
+                );
+                assert_eq!([a.listed, b.listed], [own_a.list().len(), own_b.list().len()], "both sides list the same");
+                listed.push((a.listed + b.listed) as f64);
+            }
+            let (rattle, own) = pair.per(1_000.0);
+            let name = format!("k = {k}, N = {}, load {load}%", sizes.cells());
+            println!("  {name:38} {rattle:9.1}  {own:14.1}  {:5.2}  {:8.0}", rattle / own, median(listed));
+        }
+    }
+}
+
+// ---- counting instructions
+
+/// The first steps of a job on one side, under a counter: what it counts with one step fewer, taken away, leaves the last step. Answers how many
+/// things that step did.
+fn count(words: &[String]) -> Option<usize> {
+    let rattle = words.first()? == "rattle";
+    let (random, steps) = (&mut Random::new(number(words, 1)?), number(words, 2)?);
+    let (k, last) = (number(words, 4)? as u8, number(words, 5)?);
+    match words[3].as_str() {
+        "packet" => Some(count_packets(random, rattle, steps, Sizes { kf: last as u8, f: 16, k, q: 16 })),
+        "image" => Some(count_image(random, rattle, steps, Sizes { kf: 7, f: 16, k, q: 16 }, last as usize)),
+        _ => None,
+    }
+}
+
+/// Steps: 500 new flows, then the same flows again.
+fn count_packets(random: &mut Random, rattle: bool, steps: u64, sizes: Sizes) -> usize {
+    let stream: Vec<Vec<u8>> = random_flows(random, 500).iter().map(Ipv4::bytes).collect();
+    let salt = random.u32();
+    let (mut filter, mut cells) = (vec![0; sizes.filter_bytes()], vec![0; sizes.cells_bytes()]);
+    let taken = if rattle { take } else { take_own };
+    for _ in 0..steps {
+        stream.iter().for_each(|packet| taken(sizes, salt, &mut filter, &mut cells, packet));
+    }
+    stream.len()
+}
+
+/// Steps: read, open, settle. Nothing is freed, since the library's room is lent.
+fn count_image(random: &mut Random, rattle: bool, steps: u64, sizes: Sizes, load: usize) -> usize {
+    let (flowset, _) = flowset(random, sizes, load);
+    let (image, slot) = (flowset.sealed(), flowset.header().slot);
+    let mut room = Room::new(sizes);
+    if steps > 0 {
+        let good = if rattle { elderflute::read(&image, slot).is_ok() } else { image::read(&image, slot).is_ok() };
+        assert!(good, "a good image");
+    }
+    if steps > 1 && rattle {
+        let mut session = elderflute::open(&image, slot, &mut room.lend()).expect("a good image");
+        if steps > 2 {
+            session.settle(&mut room.lend()).expect("no damage");
+            return session.listed;
+        }
+    } else if steps > 1 {
+        let mut session = std::mem::ManuallyDrop::new(opened::<Marked>(&image, slot));
+        if steps > 2 {
+            assert!(settled(&mut session), "no damage");
+            return session.list().len();
+        }
+    }
+    1
 }

@@ -89,7 +89,7 @@ pub fn expected_session_kinds() -> Vec<String> {
 pub fn expected_call_kinds() -> Vec<String> {
     let mut kinds = expected_kinds();
     kinds.extend(expected_session_kinds());
-    kinds.retain(|kind| !["hash ", "places ", "exchange "].iter().any(|call| kind.starts_with(call)));
+    kinds.retain(|kind| !["hash ", "places "].iter().any(|call| kind.starts_with(call)));
     kinds.extend(STEPS.map(|kind| format!("sequence {kind}")));
     kinds.extend(PRINTED.map(|kind| format!("print {kind}")));
     kinds

@@ -18,7 +18,7 @@ slice-aggregate-hand-over : tie.Need-slice-aggregate-hand-over
 slice-aggregate-hand-over c =
     let s = (c .before .before .before .before .before .before .before .before .before .before .before .before .before .before .before .before) in
     let a = s .args in
-    first-long (a .n) (records (a .keys .now) (a .counts .now) (a .flags .now)) (s .pre .0) (s .pre .1) .0
+    first-long 3072 (a .n) (records (a .keys .now) (a .counts .now) (a .flags .now)) (s .pre .0) (s .pre .1) .0
 
 slice-relend-prefix-hand-over-2 : tie.Need-slice-relend-prefix-hand-over-2
 slice-relend-prefix-hand-over-2 c = search needs
@@ -27,7 +27,7 @@ slice-aggregate-hand-over-2 : tie.Need-slice-aggregate-hand-over-2
 slice-aggregate-hand-over-2 c =
     let s = (c .before .before .before .before .before .before .before .before .before .before .before .before .before .before .before .before .before) in
     let a = s .args in
-    first-long (a .n) (records (a .keys .now) (a .counts .now) (a .flags .now)) (s .pre .0) (s .pre .1) .1 .0
+    first-long 3072 (a .n) (records (a .keys .now) (a .counts .now) (a .flags .now)) (s .pre .0) (s .pre .1) .1 .0
 
 slice-relend-prefix-hand-over-3 : tie.Need-slice-relend-prefix-hand-over-3
 slice-relend-prefix-hand-over-3 c = search needs
@@ -36,7 +36,7 @@ slice-aggregate-hand-over-3 : tie.Need-slice-aggregate-hand-over-3
 slice-aggregate-hand-over-3 c =
     let s = (c .before .before .before .before .before .before .before .before .before .before .before .before .before .before .before .before .before .before) in
     let a = s .args in
-    first-long (a .n) (records (a .keys .now) (a .counts .now) (a .flags .now)) (s .pre .0) (s .pre .1) .1 .1
+    first-long 3072 (a .n) (records (a .keys .now) (a .counts .now) (a .flags .now)) (s .pre .0) (s .pre .1) .1 .1
 
 hand-over-requires : tie.Need-hand-over-requires
 hand-over-requires c κs = search needs

@@ -309,7 +309,7 @@ module _ {M : Type 1} (𝓤 : URA M) (H : Heap 𝓤) (A : Atoms 𝓤) (W : Given
           ) ∷ (τ₇, l₂₀) ∷ (τ₆, l₂₁) ∷ (τ₅, l₂₂) ∷ (τ₁, l₂₃) ∷ (τ₄, l₂₄) ∷ (τ₃, l₂₅) ∷ (τ₂, l₂₆) ∷ (τ₁, l₂₇) ∷ []
 
       step-5 : (ans1 : Val) (z1 : Unit {0}) (e1 : (Unit {0}) × (V-length-of.Gives 𝓤 H A mem run b-list o-list (length list) list ans1 z1)) (ans2 :
-          Val) (e2 : V-taken-of.Gives 𝓤 H A mem run W (e1 .1 .0) ans2) (ans3 : Val) (z3 : Unit {0} × (List (ℕ) × (List (ℕ) × (List (ℕ))))) (e3 :
+          Val) (e2 : V-taken-of.Gives 𝓤 H A mem run W 3072 (e1 .1 .0) ans2) (ans3 : Val) (z3 : Unit {0} × (List (ℕ) × (List (ℕ) × (List (ℕ))))) (e3 :
           (Unit {0} × ((length (z3 .1 .0) ≡ 39936) × ((length (z3 .1 .1 .0) ≡ 3072) × ((length (z3 .1 .1 .1) ≡ 3072))))) × (V-take-apart.Gives 𝓤 H A
           mem run b-list o-list (length list) list (e2 .0) l₁₀ 0 39936 (replicate 39936 0) l₁₁ 0 3072 (replicate 3072 0) l₁₂ 0 3072 (replicate 3072 0)
           ans3 z3)) (ans4 : Val) (z4 : Unit {0} × (Unit {0} × (Unit {0} × (Unit {0} × (Unit {0} × (Unit {0} × (Unit {0} × (Unit {0} × (Unit {0} ×
@@ -367,7 +367,7 @@ module _ {M : Type 1} (𝓤 : URA M) (H : Heap 𝓤) (A : Atoms 𝓤) (W : Given
                 (tt, (tt, (tt, (tt, (tt, (tt, tt)))))),
               ),
             ),
-          ) (tt, (tt, (tt, (tt, (tt, (tt, (tt, (tt, (tt, tt)))))))))) $ says ! (tells-records (reporting
+          ) (tt, (tt, (tt, (tt, (tt, (tt, (tt, (tt, (tt, tt)))))))))) $ says ! (tells-records 3072 (reporting
           s) (refusal s reported.NotSession reported.BadRoom) (report-misfit s) (lent filter (tab xors flows unknowns positions marks) packets
           list) (e1 .1 .1 .1 .1) (e2 .1 .1 .1) (records (z3 .1 .0) (z3 .1 .1 .0) (z3 .1 .1 .1)) (record {
             keys-fit = (e3 .0 .1 .0);
@@ -384,7 +384,7 @@ module _ {M : Type 1} (𝓤 : URA M) (H : Heap 𝓤) (A : Atoms 𝓤) (W : Given
           move ! (1 ∷ 0 ∷ []) $ done !
 
       step-4 : (ans1 : Val) (z1 : Unit {0}) (e1 : (Unit {0}) × (V-length-of.Gives 𝓤 H A mem run b-list o-list (length list) list ans1 z1)) (ans2 :
-          Val) (e2 : V-taken-of.Gives 𝓤 H A mem run W (e1 .1 .0) ans2) (ans3 : Val) (z3 : Unit {0} × (List (ℕ) × (List (ℕ) × (List (ℕ))))) (e3 :
+          Val) (e2 : V-taken-of.Gives 𝓤 H A mem run W 3072 (e1 .1 .0) ans2) (ans3 : Val) (z3 : Unit {0} × (List (ℕ) × (List (ℕ) × (List (ℕ))))) (e3 :
           (Unit {0} × ((length (z3 .1 .0) ≡ 39936) × ((length (z3 .1 .1 .0) ≡ 3072) × ((length (z3 .1 .1 .1) ≡ 3072))))) × (V-take-apart.Gives 𝓤 H A
           mem run b-list o-list (length list) list (e2 .0) l₁₀ 0 39936 (replicate 39936 0) l₁₁ 0 3072 (replicate 3072 0) l₁₂ 0 3072 (replicate 3072 0)
           ans3 z3)) → Sq W (‵ (row u8 fullShare (z3 .1 .1 .1) l₁₂ 0) ∷ ‵ (row u32 fullShare (z3 .1 .1 .0) l₁₁ 0) ∷ ‵ (row u8 fullShare (z3 .1 .0) l₁₀
@@ -452,7 +452,7 @@ module _ {M : Type 1} (𝓤 : URA M) (H : Heap 𝓤) (A : Atoms 𝓤) (W : Given
             lit< tt,
             lit< tt,
           )) (e3 .0 .1 .1 .1)) (e2 .1 .1 .0) is-s ((
-            few-taken list (e1 .1 .1 .1 .1) (e2 .1 .1 .1),
+            few-taken 3072 list (e1 .1 .1 .1 .1) (e2 .1 .1 .1),
             (record {
               keys-fit = (e3 .0 .1 .0);
               counts-fit = (e3 .0 .1 .1 .0);
@@ -474,7 +474,7 @@ module _ {M : Type 1} (𝓤 : URA M) (H : Heap 𝓤) (A : Atoms 𝓤) (W : Given
           step-5 ans1 z1 e1 ans2 e2 ans3 z3 e3 ans4 z4 e4)
 
       step-3 : (ans1 : Val) (z1 : Unit {0}) (e1 : (Unit {0}) × (V-length-of.Gives 𝓤 H A mem run b-list o-list (length list) list ans1 z1)) (ans2 :
-          Val) (e2 : V-taken-of.Gives 𝓤 H A mem run W (e1 .1 .0) ans2) → Sq W (‵ (ShrOwn M-Record.the-row b-list o-list (length list) list κ-list
+          Val) (e2 : V-taken-of.Gives 𝓤 H A mem run W 3072 (e1 .1 .0) ans2) → Sq W (‵ (ShrOwn M-Record.the-row b-list o-list (length list) list κ-list
           γ-list) ∷ ‵ (flft κ-list q-list) ∷ ‵ (row u8 fullShare (replicate 3072 0) l₁₂ 0) ∷ ‵ (row u32 fullShare (replicate 3072 0) l₁₁ 0) ∷ ‵ (row
           u8 fullShare (replicate 39936 0) l₁₀ 0) ∷ ‵ (ShrOwn u8 b-filter o-filter (length filter) filter κ-filter γ-filter) ∷ ‵ (flft κ-filter
           q-filter) ∷ ‵ (ShrOwn u8 b-xors o-xors (length xors) xors κ-xors γ-xors) ∷ ‵ (flft κ-xors q-xors) ∷ ‵ (ShrOwn u16 b-flows o-flows (length
@@ -523,7 +523,7 @@ module _ {M : Type 1} (𝓤 : URA M) (H : Heap 𝓤) (A : Atoms 𝓤) (W : Given
           )) (length-replicate {A = ℕ} 39936 0)) (array-lent W u32 l₁₁ 3072 (replicate 3072 0) (subst (Room u32) (sym (length-replicate {A = ℕ}
           3072 0)) (lit< tt, lit< tt)) (length-replicate {A = ℕ} 3072 0)) (array-lent W u8 l₁₂ 3072 (replicate 3072 0) (subst (Room u8) (sym
           (length-replicate {A = ℕ} 3072 0)) (lit< tt, lit< tt)) (length-replicate {A = ℕ} 3072 0)) (length-replicate {A = ℕ} 39936 0)
-          (length-replicate {A = ℕ} 3072 0) (length-replicate {A = ℕ} 3072 0) (e2 .1 .1 .0) (inside-zeros list (e1 .1 .1 .1 .1) (e2 .1 .1 .1)) (C
+          (length-replicate {A = ℕ} 3072 0) (length-replicate {A = ℕ} 3072 0) (e2 .1 .1 .0) (inside-zeros 3072 list (e1 .1 .1 .1 .1) (e2 .1 .1 .1)) (C
           #take-apart) (fm #take-apart) known-take-apart) (and-then ! (load ! (from ! (stop !)) (look ! 48 refl)) (and-then ! (load ! (from !
           (stop !)) (look ! 41 refl)) (and-then ! (load ! (from ! (stop !)) (look ! 35 refl)) (and-then ! (load ! (from ! (stop !)) (look ! 31
           refl)) (and-then ! (load ! (from ! (stop !)) (look ! 27 refl)) (no-more !)))))) (λ ans3 z3 e3.
@@ -555,9 +555,9 @@ module _ {M : Type 1} (𝓤 : URA M) (H : Heap 𝓤) (A : Atoms 𝓤) (W : Given
           L-Reported.mir l₀ 0) ∷ ‵ (fdies L-Reported.mir l₀) ∷ []) (runs C Λ En (part 1 (part 1 (part 1 (part 1 (code.function .body))))) (atRet En
           Post))
       step-2 ans1 z1 e1 =
-          calls-plain ! fm (V-taken-of.vs 𝓤 H A mem run W (e1 .1 .0)) (V-taken-of.Gives 𝓤 H A mem run W (e1 .1 .0)) (V-taken-of.plain 𝓤 H A mem run
-          W (e1 .1 .0) (e1 .1 .1 .1 .0) (C #taken-of) (fm #taken-of) known-taken-of) (and-then ! (load ! (from ! (stop !)) (look ! 48 refl))
-          (no-more !)) (λ ans2 e2.
+          calls-plain ! fm (V-taken-of.vs 𝓤 H A mem run W 3072 (e1 .1 .0)) (V-taken-of.Gives 𝓤 H A mem run W 3072 (e1 .1 .0)) (V-taken-of.plain 𝓤 H A mem run
+          W 3072 (e1 .1 .0) (refl, lit< tt) (e1 .1 .1 .1 .0) (C #taken-of) (fm #taken-of) known-taken-of) (and-then ! (big-lit ! (record { fits = lit< tt })) (and-then ! (load ! (from ! (stop !)) (look ! 48 refl))
+          (no-more !))) (λ ans2 e2.
           land ! (from ! (stop !)) (init ! 45 refl (landed (tyInt w64) ans2 (vint w64 (e2 .0)) (e2 .1 .0) (tt, record { fits = (e2 .1 .1 .0) .1 }))) $
           rewrite ! 45 (λ (u : Val). ‵ (fat fullShare (tyInt w64) l₁₄ 0 u)) (e2 .1 .0) refl $
           step-3 ans1 z1 e1 ans2 e2)

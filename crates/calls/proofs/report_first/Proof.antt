@@ -13,19 +13,19 @@ slice-aggregate-report : tie.Need-slice-aggregate-report
 slice-aggregate-report c =
     let s = (c .before .before .before .before .before .before .before .before .before .before .before) in
     let a = s .args in
-    first-long (a .n) (records (a .keys .now) (a .counts .now) (a .flags .now)) (s .pre .0) (s .pre .1) .0
+    first-long 3072 (a .n) (records (a .keys .now) (a .counts .now) (a .flags .now)) (s .pre .0) (s .pre .1) .0
 
 slice-aggregate-report-2 : tie.Need-slice-aggregate-report-2
 slice-aggregate-report-2 c =
     let s = (c .before .before .before .before .before .before .before .before .before .before .before .before) in
     let a = s .args in
-    first-long (a .n) (records (a .keys .now) (a .counts .now) (a .flags .now)) (s .pre .0) (s .pre .1) .1 .0
+    first-long 3072 (a .n) (records (a .keys .now) (a .counts .now) (a .flags .now)) (s .pre .0) (s .pre .1) .1 .0
 
 slice-aggregate-report-3 : tie.Need-slice-aggregate-report-3
 slice-aggregate-report-3 c =
     let s = (c .before .before .before .before .before .before .before .before .before .before .before .before .before) in
     let a = s .args in
-    first-long (a .n) (records (a .keys .now) (a .counts .now) (a .flags .now)) (s .pre .0) (s .pre .1) .1 .1
+    first-long 3072 (a .n) (records (a .keys .now) (a .counts .now) (a .flags .now)) (s .pre .0) (s .pre .1) .1 .1
 
 report-requires : tie.Need-report-requires
 report-requires c κs = search needs

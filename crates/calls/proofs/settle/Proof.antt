@@ -344,7 +344,7 @@ module _ {M : Type 1} (𝓤 : URA M) (H : Heap 𝓤) (A : Atoms 𝓤) (W : Given
           ) ∷ (τ₁, l₅₂) ∷ []
 
       step-6 : (ans1 : Val) (z1 : Unit {0}) (e1 : (Unit {0}) × (V-length-of.Gives 𝓤 H A mem run b-list o-list (length list) list ans1 z1)) (ans2 :
-          Val) (e2 : V-taken-of.Gives 𝓤 H A mem run W (e1 .1 .0) ans2) (ans3 : Val) (z3 : Unit {0} × (List (ℕ) × (List (ℕ) × (List (ℕ))))) (e3 :
+          Val) (e2 : V-taken-of.Gives 𝓤 H A mem run W 3072 (e1 .1 .0) ans2) (ans3 : Val) (z3 : Unit {0} × (List (ℕ) × (List (ℕ) × (List (ℕ))))) (e3 :
           (Unit {0} × ((length (z3 .1 .0) ≡ 39936) × ((length (z3 .1 .1 .0) ≡ 3072) × ((length (z3 .1 .1 .1) ≡ 3072))))) × (V-take-apart.Gives 𝓤 H A
           mem run b-list o-list (length list) list (e2 .0) l₁₀ 0 39936 (replicate 39936 0) l₁₁ 0 3072 (replicate 3072 0) l₁₂ 0 3072 (replicate 3072 0)
           ans3 z3)) (ans4 : Val) (z4 : Unit {0} × (List (ℕ) × (List (ℕ) × (List (ℕ) × (List (ℕ) × (List (ℕ) × (List (ℕ) × (List (ℕ) × (List (ℕ) ×
@@ -463,7 +463,7 @@ module _ {M : Type 1} (𝓤 : URA M) (H : Heap 𝓤) (A : Atoms 𝓤) (W : Given
                 ),
               ),
             ),
-          )) $ says ! (calls-records (settling s) (refusal s settled.NotSession settled.BadRoom)
+          )) $ says ! (calls-records 3072 (settling s) (refusal s settled.NotSession settled.BadRoom)
           (settle-misfit s) (lent filter (tab xors flows unknowns positions marks) packets list) (e1 .1 .1 .1 .1) (e2 .1 .1 .1) (records (z3 .1
           .0) (z3 .1 .1 .0) (z3 .1 .1 .1)) (record { keys-fit = (e3 .0 .1 .0); counts-fit = (e3 .0 .1 .1 .0); flags-fit = (e3 .0 .1 .1 .1) }) (e3
           .1 .1 .1 .1) (e4 .1 .0) (memory filter (tab (z4 .1 .0) (z4 .1 .1 .0) (z4 .1 .1 .1 .1 .0) (z4 .1 .1 .1 .1 .1 .0) (z4 .1 .1 .1 .1 .1 .1
@@ -483,7 +483,7 @@ module _ {M : Type 1} (𝓤 : URA M) (H : Heap 𝓤) (A : Atoms 𝓤) (W : Given
           (1 ∷ 0 ∷ []) $ done !
 
       step-5 : (ans1 : Val) (z1 : Unit {0}) (e1 : (Unit {0}) × (V-length-of.Gives 𝓤 H A mem run b-list o-list (length list) list ans1 z1)) (ans2 :
-          Val) (e2 : V-taken-of.Gives 𝓤 H A mem run W (e1 .1 .0) ans2) (ans3 : Val) (z3 : Unit {0} × (List (ℕ) × (List (ℕ) × (List (ℕ))))) (e3 :
+          Val) (e2 : V-taken-of.Gives 𝓤 H A mem run W 3072 (e1 .1 .0) ans2) (ans3 : Val) (z3 : Unit {0} × (List (ℕ) × (List (ℕ) × (List (ℕ))))) (e3 :
           (Unit {0} × ((length (z3 .1 .0) ≡ 39936) × ((length (z3 .1 .1 .0) ≡ 3072) × ((length (z3 .1 .1 .1) ≡ 3072))))) × (V-take-apart.Gives 𝓤 H A
           mem run b-list o-list (length list) list (e2 .0) l₁₀ 0 39936 (replicate 39936 0) l₁₁ 0 3072 (replicate 3072 0) l₁₂ 0 3072 (replicate 3072 0)
           ans3 z3)) (ans4 : Val) (z4 : Unit {0} × (List (ℕ) × (List (ℕ) × (List (ℕ) × (List (ℕ) × (List (ℕ) × (List (ℕ) × (List (ℕ) × (List (ℕ) ×
@@ -568,7 +568,7 @@ module _ {M : Type 1} (𝓤 : URA M) (H : Heap 𝓤) (A : Atoms 𝓤) (W : Given
           (lit< tt, lit< tt)) (e4 .0 .1 .1 .1 .1 .1 .1 .1 .0)) (array-shown W u32 l₁₁ 3072 (z4 .1 .1 .1 .1 .1 .1 .1 .1 .0) (subst (Room u32) (sym
           (e4 .0 .1 .1 .1 .1 .1 .1 .1 .1 .0)) (lit< tt, lit< tt)) (e4 .0 .1 .1 .1 .1 .1 .1 .1 .1 .0)) (array-shown W u8 l₁₂ 3072 (z4 .1 .1 .1 .1
           .1 .1 .1 .1 .1) (subst (Room u8) (sym (e4 .0 .1 .1 .1 .1 .1 .1 .1 .1 .1)) (lit< tt, lit< tt)) (e4 .0 .1 .1 .1 .1 .1 .1 .1 .1 .1)) refl
-          (e2 .1 .1 .0) (inside list (e1 .1 .1 .1 .1) (e2 .1 .1 .1) (record {
+          (e2 .1 .1 .0) (inside 3072 list (e1 .1 .1 .1 .1) (e2 .1 .1 .1) (record {
             keys-fit = (e4 .0 .1 .1 .1 .1 .1 .1 .1 .0);
             counts-fit = (e4 .0 .1
                 .1 .1 .1 .1 .1 .1 .1 .0);
@@ -583,7 +583,7 @@ module _ {M : Type 1} (𝓤 : URA M) (H : Heap 𝓤) (A : Atoms 𝓤) (W : Given
           step-6 ans1 z1 e1 ans2 e2 ans3 z3 e3 ans4 z4 e4 ans5 z5 e5)
 
       step-4 : (ans1 : Val) (z1 : Unit {0}) (e1 : (Unit {0}) × (V-length-of.Gives 𝓤 H A mem run b-list o-list (length list) list ans1 z1)) (ans2 :
-          Val) (e2 : V-taken-of.Gives 𝓤 H A mem run W (e1 .1 .0) ans2) (ans3 : Val) (z3 : Unit {0} × (List (ℕ) × (List (ℕ) × (List (ℕ))))) (e3 :
+          Val) (e2 : V-taken-of.Gives 𝓤 H A mem run W 3072 (e1 .1 .0) ans2) (ans3 : Val) (z3 : Unit {0} × (List (ℕ) × (List (ℕ) × (List (ℕ))))) (e3 :
           (Unit {0} × ((length (z3 .1 .0) ≡ 39936) × ((length (z3 .1 .1 .0) ≡ 3072) × ((length (z3 .1 .1 .1) ≡ 3072))))) × (V-take-apart.Gives 𝓤 H A
           mem run b-list o-list (length list) list (e2 .0) l₁₀ 0 39936 (replicate 39936 0) l₁₁ 0 3072 (replicate 3072 0) l₁₂ 0 3072 (replicate 3072 0)
           ans3 z3)) → Sq W (‵ (row u8 fullShare (z3 .1 .1 .1) l₁₂ 0) ∷ ‵ (row u32 fullShare (z3 .1 .1 .0) l₁₁ 0) ∷ ‵ (row u8 fullShare (z3 .1 .0) l₁₀
@@ -698,7 +698,7 @@ module _ {M : Type 1} (𝓤 : URA M) (H : Heap 𝓤) (A : Atoms 𝓤) (W : Given
             lit<
                 tt,
           )) (e3 .0 .1 .1 .1)) refl refl refl refl refl refl (e3 .0 .1 .0) (e3 .0 .1 .1 .0) (e3 .0 .1 .1 .1) (e2 .1 .1 .0) is-s ((
-            few-taken list
+            few-taken 3072 list
                 (e1 .1 .1 .1 .1) (e2 .1 .1 .1),
             (record { keys-fit = (e3 .0 .1 .0); counts-fit = (e3 .0 .1 .1 .0); flags-fit = (e3 .0 .1 .1 .1) }),
           )) (C
@@ -717,7 +717,7 @@ module _ {M : Type 1} (𝓤 : URA M) (H : Heap 𝓤) (A : Atoms 𝓤) (W : Given
           step-5 ans1 z1 e1 ans2 e2 ans3 z3 e3 ans4 z4 e4)
 
       step-3 : (ans1 : Val) (z1 : Unit {0}) (e1 : (Unit {0}) × (V-length-of.Gives 𝓤 H A mem run b-list o-list (length list) list ans1 z1)) (ans2 :
-          Val) (e2 : V-taken-of.Gives 𝓤 H A mem run W (e1 .1 .0) ans2) → Sq W (‵ (MutOwn M-Record.the-row b-list o-list (length list) list κ-list
+          Val) (e2 : V-taken-of.Gives 𝓤 H A mem run W 3072 (e1 .1 .0) ans2) → Sq W (‵ (MutOwn M-Record.the-row b-list o-list (length list) list κ-list
           γ-list) ∷ ‵ (flft κ-list q-list) ∷ ‵ (row u8 fullShare (replicate 3072 0) l₁₂ 0) ∷ ‵ (row u32 fullShare (replicate 3072 0) l₁₁ 0) ∷ ‵ (row
           u8 fullShare (replicate 39936 0) l₁₀ 0) ∷ ‵ (ShrOwn u8 b-filter o-filter (length filter) filter κ-filter γ-filter) ∷ ‵ (flft κ-filter
           q-filter) ∷ ‵ (MutOwn u8 b-xors o-xors (length xors) xors κ-xors γ-xors) ∷ ‵ (flft κ-xors q-xors) ∷ ‵ (MutOwn u16 b-flows o-flows (length
@@ -780,7 +780,7 @@ module _ {M : Type 1} (𝓤 : URA M) (H : Heap 𝓤) (A : Atoms 𝓤) (W : Given
           )) (length-replicate {A = ℕ} 39936 0)) (array-lent W u32 l₁₁ 3072 (replicate 3072 0) (subst (Room u32) (sym (length-replicate {A = ℕ}
           3072 0)) (lit< tt, lit< tt)) (length-replicate {A = ℕ} 3072 0)) (array-lent W u8 l₁₂ 3072 (replicate 3072 0) (subst (Room u8) (sym
           (length-replicate {A = ℕ} 3072 0)) (lit< tt, lit< tt)) (length-replicate {A = ℕ} 3072 0)) (length-replicate {A = ℕ} 39936 0)
-          (length-replicate {A = ℕ} 3072 0) (length-replicate {A = ℕ} 3072 0) (e2 .1 .1 .0) (inside-zeros list (e1 .1 .1 .1 .1) (e2 .1 .1 .1)) (C
+          (length-replicate {A = ℕ} 3072 0) (length-replicate {A = ℕ} 3072 0) (e2 .1 .1 .0) (inside-zeros 3072 list (e1 .1 .1 .1 .1) (e2 .1 .1 .1)) (C
           #take-apart) (fm #take-apart) known-take-apart) (and-then ! (load ! (from ! (stop !)) (look ! 79 refl)) (and-then ! (load ! (from !
           (stop !)) (look ! 91 refl)) (and-then ! (load ! (from ! (stop !)) (look ! 75 refl)) (and-then ! (load ! (from ! (stop !)) (look ! 71
           refl)) (and-then ! (load ! (from ! (stop !)) (look ! 67 refl)) (no-more !)))))) (λ ans3 z3 e3.
@@ -820,9 +820,9 @@ module _ {M : Type 1} (𝓤 : URA M) (H : Heap 𝓤) (A : Atoms 𝓤) (W : Given
           L-Session.mir l₁) ∷ ‵ (froom L-Settled.mir l₀ 0) ∷ ‵ (fdies L-Settled.mir l₀) ∷ []) (runs C Λ En (part 1 (part 1 (part 1 (part 1 (part 1
           (part 1 (code.function .body))))))) (atRet En Post))
       step-2 ans1 z1 e1 =
-          calls-plain ! fm (V-taken-of.vs 𝓤 H A mem run W (e1 .1 .0)) (V-taken-of.Gives 𝓤 H A mem run W (e1 .1 .0)) (V-taken-of.plain 𝓤 H A mem run
-          W (e1 .1 .0) (e1 .1 .1 .1 .0) (C #taken-of) (fm #taken-of) known-taken-of) (and-then ! (load ! (from ! (stop !)) (look ! 98 refl))
-          (no-more !)) (λ ans2 e2.
+          calls-plain ! fm (V-taken-of.vs 𝓤 H A mem run W 3072 (e1 .1 .0)) (V-taken-of.Gives 𝓤 H A mem run W 3072 (e1 .1 .0)) (V-taken-of.plain 𝓤 H A mem run
+          W 3072 (e1 .1 .0) (refl, lit< tt) (e1 .1 .1 .1 .0) (C #taken-of) (fm #taken-of) known-taken-of) (and-then ! (big-lit ! (record { fits = lit< tt })) (and-then ! (load ! (from ! (stop !)) (look ! 98 refl))
+          (no-more !))) (λ ans2 e2.
           land ! (from ! (stop !)) (init ! 95 refl (landed (tyInt w64) ans2 (vint w64 (e2 .0)) (e2 .1 .0) (tt, record { fits = (e2 .1 .1 .0) .1 }))) $
           rewrite ! 95 (λ (u : Val). ‵ (fat fullShare (tyInt w64) l₁₄ 0 u)) (e2 .1 .0) refl $
           step-3 ans1 z1 e1 ans2 e2)

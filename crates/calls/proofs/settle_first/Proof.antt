@@ -18,7 +18,7 @@ slice-aggregate-settle : tie.Need-slice-aggregate-settle
 slice-aggregate-settle c =
     let s = (c .before .before .before .before .before .before .before .before .before .before .before .before .before .before .before .before .before) in
     let a = s .args in
-    first-long (a .n) (records (a .keys .now) (a .counts .now) (a .flags .now)) (s .pre .0) (s .pre .1) .0
+    first-long 3072 (a .n) (records (a .keys .now) (a .counts .now) (a .flags .now)) (s .pre .0) (s .pre .1) .0
 
 slice-relend-prefix-settle-2 : tie.Need-slice-relend-prefix-settle-2
 slice-relend-prefix-settle-2 c = search needs
@@ -27,7 +27,7 @@ slice-aggregate-settle-2 : tie.Need-slice-aggregate-settle-2
 slice-aggregate-settle-2 c =
     let s = (c .before .before .before .before .before .before .before .before .before .before .before .before .before .before .before .before .before .before) in
     let a = s .args in
-    first-long (a .n) (records (a .keys .now) (a .counts .now) (a .flags .now)) (s .pre .0) (s .pre .1) .1 .0
+    first-long 3072 (a .n) (records (a .keys .now) (a .counts .now) (a .flags .now)) (s .pre .0) (s .pre .1) .1 .0
 
 slice-relend-prefix-settle-3 : tie.Need-slice-relend-prefix-settle-3
 slice-relend-prefix-settle-3 c = search needs
@@ -36,7 +36,7 @@ slice-aggregate-settle-3 : tie.Need-slice-aggregate-settle-3
 slice-aggregate-settle-3 c =
     let s = (c .before .before .before .before .before .before .before .before .before .before .before .before .before .before .before .before .before .before .before) in
     let a = s .args in
-    first-long (a .n) (records (a .keys .now) (a .counts .now) (a .flags .now)) (s .pre .0) (s .pre .1) .1 .1
+    first-long 3072 (a .n) (records (a .keys .now) (a .counts .now) (a .flags .now)) (s .pre .0) (s .pre .1) .1 .1
 
 settle-requires : tie.Need-settle-requires
 settle-requires c κs = search needs

@@ -17,42 +17,42 @@ returns c =
 returns-2 : tie.Need-returns-2
 returns-2 c =
     let a = (c .before .before .before .before) .args in
-    refuted (λ h. c .if2 .taken (areas-full (a .e) (memory (a .filter .now) (tab (a .xors .now) (a .flows .now) (a .unknowns .now) (a .positions .now) (a .marks .now)) (a .packets .now) (records (a .keys .now) (a .counts .now) (a .flags .now))) h .packets-full))
+    refuted (λ h. c .if2 .taken (areas-full (a .e) (memory (a .filter .now) (tab (a .xors .now) (a .flows .now) (a .unknowns .now) (a .positions .now) (a .marks .now)) (a .packets .now) (records (a .keys .now) (a .counts .now) (a .flags .now))) h .full .packets-full))
 
 returns-3 : tie.Need-returns-3
 returns-3 c =
     let a = (c .before .before .before .before .before .before) .args in
-    refuted (λ h. c .if3 .taken (areas-full (a .e) (memory (a .filter .now) (tab (a .xors .now) (a .flows .now) (a .unknowns .now) (a .positions .now) (a .marks .now)) (a .packets .now) (records (a .keys .now) (a .counts .now) (a .flags .now))) h .xors-full))
+    refuted (λ h. c .if3 .taken (areas-full (a .e) (memory (a .filter .now) (tab (a .xors .now) (a .flows .now) (a .unknowns .now) (a .positions .now) (a .marks .now)) (a .packets .now) (records (a .keys .now) (a .counts .now) (a .flags .now))) h .full .xors-full))
 
 returns-4 : tie.Need-returns-4
 returns-4 c =
     let a = (c .before .before .before .before .before .before .before .before) .args in
-    refuted (λ h. c .if4 .taken (areas-full (a .e) (memory (a .filter .now) (tab (a .xors .now) (a .flows .now) (a .unknowns .now) (a .positions .now) (a .marks .now)) (a .packets .now) (records (a .keys .now) (a .counts .now) (a .flags .now))) h .flows-full))
+    refuted (λ h. c .if4 .taken (areas-full (a .e) (memory (a .filter .now) (tab (a .xors .now) (a .flows .now) (a .unknowns .now) (a .positions .now) (a .marks .now)) (a .packets .now) (records (a .keys .now) (a .counts .now) (a .flags .now))) h .full .flows-full))
 
 returns-5 : tie.Need-returns-5
 returns-5 c =
     let a = (c .before .before .before .before .before .before .before .before .before .before) .args in
-    refuted (λ h. c .if5 .taken (areas-full (a .e) (memory (a .filter .now) (tab (a .xors .now) (a .flows .now) (a .unknowns .now) (a .positions .now) (a .marks .now)) (a .packets .now) (records (a .keys .now) (a .counts .now) (a .flags .now))) h .unknowns-full))
+    refuted (λ h. c .if5 .taken (areas-full (a .e) (memory (a .filter .now) (tab (a .xors .now) (a .flows .now) (a .unknowns .now) (a .positions .now) (a .marks .now)) (a .packets .now) (records (a .keys .now) (a .counts .now) (a .flags .now))) h .full .unknowns-full))
 
 returns-6 : tie.Need-returns-6
 returns-6 c =
     let a = (c .before .before .before .before .before .before .before .before .before .before .before .before) .args in
-    refuted (λ h. c .if6 .taken (areas-full (a .e) (memory (a .filter .now) (tab (a .xors .now) (a .flows .now) (a .unknowns .now) (a .positions .now) (a .marks .now)) (a .packets .now) (records (a .keys .now) (a .counts .now) (a .flags .now))) h .positions-full))
+    refuted (λ h. c .if6 .taken (areas-full (a .e) (memory (a .filter .now) (tab (a .xors .now) (a .flows .now) (a .unknowns .now) (a .positions .now) (a .marks .now)) (a .packets .now) (records (a .keys .now) (a .counts .now) (a .flags .now))) h .full .positions-full))
 
 returns-7 : tie.Need-returns-7
 returns-7 c =
     let a = (c .before .before .before .before .before .before .before .before .before .before .before .before .before .before) .args in
-    refuted (λ h. c .if7 .taken (areas-full (a .e) (memory (a .filter .now) (tab (a .xors .now) (a .flows .now) (a .unknowns .now) (a .positions .now) (a .marks .now)) (a .packets .now) (records (a .keys .now) (a .counts .now) (a .flags .now))) h .marks-full))
+    refuted (λ h. c .if7 .taken (areas-full (a .e) (memory (a .filter .now) (tab (a .xors .now) (a .flows .now) (a .unknowns .now) (a .positions .now) (a .marks .now)) (a .packets .now) (records (a .keys .now) (a .counts .now) (a .flags .now))) h .full .marks-full))
 
 returns-8 : tie.Need-returns-8
 returns-8 c =
     let a = (c .before .before .before .before .before .before .before .before .before .before .before .before .before .before .before .before) .args in
-    refuted (λ h. c .if8 .taken (areas-full (a .e) (memory (a .filter .now) (tab (a .xors .now) (a .flows .now) (a .unknowns .now) (a .positions .now) (a .marks .now)) (a .packets .now) (records (a .keys .now) (a .counts .now) (a .flags .now))) h .keys-full))
+    refuted (λ h. c .if8 .taken (areas-full (a .e) (memory (a .filter .now) (tab (a .xors .now) (a .flows .now) (a .unknowns .now) (a .positions .now) (a .marks .now)) (a .packets .now) (records (a .keys .now) (a .counts .now) (a .flags .now))) h .full .keys-full))
 
 returns-9 : tie.Need-returns-9
 returns-9 c =
     let a = (c .before .before .before .before .before .before .before .before .before .before .before .before .before .before .before .before .before .before) .args in
-    refuted (λ h. c .if9 .taken (areas-full (a .e) (memory (a .filter .now) (tab (a .xors .now) (a .flows .now) (a .unknowns .now) (a .positions .now) (a .marks .now)) (a .packets .now) (records (a .keys .now) (a .counts .now) (a .flags .now))) h .counts-full))
+    refuted (λ h. c .if9 .taken (areas-full (a .e) (memory (a .filter .now) (tab (a .xors .now) (a .flows .now) (a .unknowns .now) (a .positions .now) (a .marks .now)) (a .packets .now) (records (a .keys .now) (a .counts .now) (a .flags .now))) h .full .counts-full))
 
 returns-10 : tie.Need-returns-10
 returns-10 c =

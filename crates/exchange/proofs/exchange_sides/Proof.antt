@@ -63,46 +63,46 @@ returns c =
 
 table-cells-requires : tie.Need-table-cells-requires
 table-cells-requires c κs =
-    ((c .before .before .before .before .before .before .before .before .before .before .before .before .before .before .before .before .before .before .before .before .before .before .before .before .before .before .before .before .before .before .before .before .before .before .before .before .before .before .before .before .before .before .before .before) .pre .0 .lays, (c .before .before .before .before .before .before .before .before .before .before .before .before .before .before .before .before .before .before .before .before .before .before .before .before .before .before .before .before .before .before .before .before .before .before .before .before .before .before .before .before .before .before .before .before) .pre .0 .ranged-a)
+    ((c .before .before .before .before .before .before .before .before .before .before .before .before .before .before .before .before .before .before .before .before .before .before .before .before .before .before .before .before .before .before .before .before .before .before .before .before .before .before .before .before .before .before .before .before) .pre .0 .ends .lays, (c .before .before .before .before .before .before .before .before .before .before .before .before .before .before .before .before .before .before .before .before .before .before .before .before .before .before .before .before .before .before .before .before .before .before .before .before .before .before .before .before .before .before .before .before) .pre .0 .ends .ranged-a)
 
 mul-most : tie.Need-mul-most
 mul-most c =
     let start = (c .before .before .before .before .before .before .before .before .before .before .before .before .before .before .before .before .before .before .before .before .before .before .before .before .before .before .before .before .before .before .before .before .before .before .before .before .before .before .before .before .before .before .before .before .before) in
     let a = start .args in
     let h = start .pre .0 in
-    omega (arith, table-high (a .l) (a .s .sizes) (h .lays) (h .ranged-a), table-high (a .l) (a .t .sizes) (h .lays) (h .ranged-b), c .table-cells .ensures)
+    omega (arith, table-high (a .l) (a .s .sizes) (h .ends .lays) (h .ends .ranged-a), table-high (a .l) (a .t .sizes) (h .ends .lays) (h .ends .ranged-b), c .table-cells .ensures)
 
 table-cells-requires-2 : tie.Need-table-cells-requires-2
 table-cells-requires-2 c κs =
-    ((c .before .before .before .before .before .before .before .before .before .before .before .before .before .before .before .before .before .before .before .before .before .before .before .before .before .before .before .before .before .before .before .before .before .before .before .before .before .before .before .before .before .before .before .before .before) .pre .0 .lays, (c .before .before .before .before .before .before .before .before .before .before .before .before .before .before .before .before .before .before .before .before .before .before .before .before .before .before .before .before .before .before .before .before .before .before .before .before .before .before .before .before .before .before .before .before .before) .pre .0 .ranged-b)
+    ((c .before .before .before .before .before .before .before .before .before .before .before .before .before .before .before .before .before .before .before .before .before .before .before .before .before .before .before .before .before .before .before .before .before .before .before .before .before .before .before .before .before .before .before .before .before) .pre .0 .ends .lays, (c .before .before .before .before .before .before .before .before .before .before .before .before .before .before .before .before .before .before .before .before .before .before .before .before .before .before .before .before .before .before .before .before .before .before .before .before .before .before .before .before .before .before .before .before .before) .pre .0 .ends .ranged-b)
 
 mul-most-2 : tie.Need-mul-most-2
 mul-most-2 c =
     let start = (c .before .before .before .before .before .before .before .before .before .before .before .before .before .before .before .before .before .before .before .before .before .before .before .before .before .before .before .before .before .before .before .before .before .before .before .before .before .before .before .before .before .before .before .before .before .before) in
     let a = start .args in
     let h = start .pre .0 in
-    omega (arith, table-high (a .l) (a .s .sizes) (h .lays) (h .ranged-a), table-high (a .l) (a .t .sizes) (h .lays) (h .ranged-b), c .before .table-cells .ensures, c .table-cells2 .ensures)
+    omega (arith, table-high (a .l) (a .s .sizes) (h .ends .lays) (h .ends .ranged-a), table-high (a .l) (a .t .sizes) (h .ends .lays) (h .ends .ranged-b), c .before .table-cells .ensures, c .table-cells2 .ensures)
 
 add-most : tie.Need-add-most
 add-most c =
     let start = (c .before .before .before .before .before .before .before .before .before .before .before .before .before .before .before .before .before .before .before .before .before .before .before .before .before .before .before .before .before .before .before .before .before .before .before .before .before .before .before .before .before .before .before .before .before .before) in
     let a = start .args in
     let h = start .pre .0 in
-    omega (arith, table-high (a .l) (a .s .sizes) (h .lays) (h .ranged-a), table-high (a .l) (a .t .sizes) (h .lays) (h .ranged-b), c .before .table-cells .ensures, c .table-cells2 .ensures)
+    omega (arith, table-high (a .l) (a .s .sizes) (h .ends .lays) (h .ends .ranged-a), table-high (a .l) (a .t .sizes) (h .ends .lays) (h .ends .ranged-b), c .before .table-cells .ensures, c .table-cells2 .ensures)
 
 add-most-2 : tie.Need-add-most-2
 add-most-2 c =
     let start = (c .before .before .before .before .before .before .before .before .before .before .before .before .before .before .before .before .before .before .before .before .before .before .before .before .before .before .before .before .before .before .before .before .before .before .before .before .before .before .before .before .before .before .before .before .before .before) in
     let a = start .args in
     let h = start .pre .0 in
-    omega (arith, table-high (a .l) (a .s .sizes) (h .lays) (h .ranged-a), table-high (a .l) (a .t .sizes) (h .lays) (h .ranged-b), c .before .table-cells .ensures, c .table-cells2 .ensures)
+    omega (arith, table-high (a .l) (a .s .sizes) (h .ends .lays) (h .ends .ranged-a), table-high (a .l) (a .t .sizes) (h .ends .lays) (h .ends .ranged-b), c .before .table-cells .ensures, c .table-cells2 .ensures)
 
 all-rounds-requires : tie.Need-all-rounds-requires
 all-rounds-requires c κs =
     let start = (c .before .before .before .before .before .before .before .before .before .before .before .before .before .before .before .before .before .before .before .before .before .before .before .before .before .before .before .before .before .before .before .before .before .before .before .before .before .before .before .before .before .before .before .before .before .before .before .before .before .before .before .before .before .before .before .before) in
     let a = start .args in
     let h = start .pre .0 in
-    (sides-both (a .l) (a .s) (a .t) (a .p) (a .e) (a .filter .now) h (c .before .before .before .before .before .before .before .before .before .before .before .before .before .before .before .before .before .before .before .before .before .before .before .before .before .before .before .before .before .before .before .before .before .before .settle-both .ensures), start .pre .1, omega (arith, table-high (a .l) (a .s .sizes) (h .lays) (h .ranged-a), table-high (a .l) (a .t .sizes) (h .lays) (h .ranged-b), c .before .before .before .before .before .before .before .before .before .before .before .table-cells .ensures, c .before .before .before .before .before .before .before .before .before .before .table-cells2 .ensures))
+    (sides-both (a .l) (a .s) (a .t) (a .p) (a .e) (a .filter .now) h (c .before .before .before .before .before .before .before .before .before .before .before .before .before .before .before .before .before .before .before .before .before .before .before .before .before .before .before .before .before .before .before .before .before .before .settle-both .ensures), start .pre .1, omega (arith, table-high (a .l) (a .s .sizes) (h .ends .lays) (h .ends .ranged-a), table-high (a .l) (a .t .sizes) (h .ends .lays) (h .ends .ranged-b), c .before .before .before .before .before .before .before .before .before .before .before .table-cells .ensures, c .before .before .before .before .before .before .before .before .before .before .table-cells2 .ensures))
 
 same-length-11 : tie.Need-same-length-11
 same-length-11 c =

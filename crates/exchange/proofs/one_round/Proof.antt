@@ -8,7 +8,7 @@ use Rattle.peeling.specs.Table.{tab}
 use Rattle.layout.proofs.Ranges.{table-high}
 use Rattle.parts.specs.Sides.{handList, given}
 use Rattle.parts.specs.Areas.{origin, between, givePart, Gives, areas, partAt}
-use Rattle.exchange.proofs.Steps.{place-ends, lies-start, lies-at}
+use Rattle.exchange.proofs.Steps.{lies-start, lies-at}
 use borrow.Author.Needs.{needs}
 use Rattle.exchange.proofs.one_round.Statement.{statement}
 use Rattle.exchange.proofs.one_round.Tie as tie
@@ -32,7 +32,7 @@ give-requires-2 c κs =
     let h = start .pre .0 in
     let f = a .filter .now in
     let full = start .pre .1 in
-    let one = given-b (a .l) (switchOf (a .s)) (switchOf (a .t)) (a .p) (a .e) (h .seam-is) (place-ends h) (lies-start h) f (filter-b h f full) (c .before .before .before .before .before .before .before .before .before .before .before .before .before .before .before .before .before .before .before .before .before .before .before .before .before .before .before .before .give .ensures) in
+    let one = given-b (a .l) (switchOf (a .s)) (switchOf (a .t)) (a .p) (a .e) (h .ends .seam-is) (h .ends .end-is) (lies-start h) f (filter-b h f full) (c .before .before .before .before .before .before .before .before .before .before .before .before .before .before .before .before .before .before .before .before .before .before .before .before .before .before .before .before .give .ensures) in
     subst (λ o. Gives (a .l) (a .s .sizes) (a .s .salt) o (a .p) (a .a) (a .p .keys) (c .before .before .before .before .before .before .before .before .before .before .before .before .before .before .before .before .before .before .before .before .before .before .before .before .before .before .before .before .give .result .listed) f (tab (c .before .before .before .before .before .before .before .before .before .before .before .before .before .before .before .before .before .before .before .before .before .before .before .before .before .before .before .before .give .last .1 .1 .1 .1 .1 .1 .1 .1 .1 .0) (c .before .before .before .before .before .before .before .before .before .before .before .before .before .before .before .before .before .before .before .before .before .before .before .before .before .before .before .before .give .last .1 .1 .1 .1 .1 .1 .1 .1 .1 .1 .0) (c .before .before .before .before .before .before .before .before .before .before .before .before .before .before .before .before .before .before .before .before .before .before .before .before .before .before .before .before .give .last .1 .1 .1 .1 .1 .1 .1 .1 .1 .1 .1 .0) (c .before .before .before .before .before .before .before .before .before .before .before .before .before .before .before .before .before .before .before .before .before .before .before .before .before .before .before .before .give .last .1 .1 .1 .1 .1 .1 .1 .1 .1 .1 .1 .1 .0) (c .before .before .before .before .before .before .before .before .before .before .before .before .before .before .before .before .before .before .before .before .before .before .before .before .before .before .before .before .give .last .1 .1 .1 .1 .1 .1 .1 .1 .1 .1 .1 .1 .1 .0)) (records (c .before .before .before .before .before .before .before .before .before .before .before .before .before .before .before .before .before .before .before .before .before .before .before .before .before .before .before .before .give .last .1 .1 .1 .1 .1 .1 .1 .1 .1 .1 .1 .1 .1 .1 .0) (c .before .before .before .before .before .before .before .before .before .before .before .before .before .before .before .before .before .before .before .before .before .before .before .before .before .before .before .before .give .last .1 .1 .1 .1 .1 .1 .1 .1 .1 .1 .1 .1 .1 .1 .1 .0) (c .before .before .before .before .before .before .before .before .before .before .before .before .before .before .before .before .before .before .before .before .before .before .before .before .before .before .before .before .give .last .1 .1 .1 .1 .1 .1 .1 .1 .1 .1 .1 .1 .1 .1 .1 .1 .0)) (c .before .before .before .before .before .before .before .before .before .before .before .before .before .before .before .before .before .before .before .before .before .before .before .before .before .before .before .before .give .last .1 .1 .1 .1 .1 .1 .1 .1 .1 .1 .1 .1 .1 .1 .1 .1 .1 .0))
     (sym (c .before .before .before .before .before .before .before .before .before .origin .ensures)) (gives-a (lies-at h (one .2) refl (one .0)) f full)
 
@@ -43,7 +43,7 @@ add-settle-both c =
     let h = start .pre .0 in
     let f = a .filter .now in
     let full = start .pre .1 in
-    let one = given-b (a .l) (switchOf (a .s)) (switchOf (a .t)) (a .p) (a .e) (h .seam-is) (place-ends h) (lies-start h) f (filter-b h f full) (c .before .before .before .before .before .before .before .before .before .before .before .before .before .before .before .before .before .before .before .before .before .before .before .before .before .before .before .before .before .before .before .before .before .before .before .before .before .before .before .before .before .before .before .before .before .before .before .before .give .ensures) in
+    let one = given-b (a .l) (switchOf (a .s)) (switchOf (a .t)) (a .p) (a .e) (h .ends .seam-is) (h .ends .end-is) (lies-start h) f (filter-b h f full) (c .before .before .before .before .before .before .before .before .before .before .before .before .before .before .before .before .before .before .before .before .before .before .before .before .before .before .before .before .before .before .before .before .before .before .before .before .before .before .before .before .before .before .before .before .before .before .before .before .give .ensures) in
     let r = (areas (tab (a .xors .now) (a .flows .now) (a .unknowns .now) (a .positions .now) (a .marks .now)) (a .packets .now) (records (a .keys .now) (a .counts .now) (a .flags .now)) (a .seen .now)) in
     let fa = between 0 (a .p .filter) f in
     let fb = between (a .p .filter) (a .e .filter) f in
@@ -51,8 +51,8 @@ add-settle-both c =
       arith,
       start .pre .2,
       h .stands-a .fits .listed,
-      table-high (a .l) (a .s .sizes) (h .lays) (h .ranged-a),
-      table-high (a .l) (a .t .sizes) (h .lays) (h .ranged-b),
+      table-high (a .l) (a .s .sizes) (h .ends .lays) (h .ends .ranged-a),
+      table-high (a .l) (a .t .sizes) (h .ends .lays) (h .ends .ranged-b),
       twelves-few (a .l) (switchOf (a .t)) fb ((partAt origin (a .p) (a .a) r) .list .keys) (a .a) (partAt (a .p) (a .e) (a .b) r) (one .1),
     )
 
@@ -63,8 +63,8 @@ add-settle-both-2 c =
     let h = start .pre .0 in
     let f = a .filter .now in
     let full = start .pre .1 in
-    let one = given-b (a .l) (switchOf (a .s)) (switchOf (a .t)) (a .p) (a .e) (h .seam-is) (place-ends h) (lies-start h) f (filter-b h f full) (c .before .before .before .before .before .before .before .before .before .before .before .before .before .before .before .before .before .before .before .before .before .before .before .before .before .before .before .before .before .before .before .before .before .before .before .before .before .before .before .before .before .before .before .before .before .before .before .before .before .give .ensures) in
-    let two = given-a (a .l) (switchOf (a .s)) (switchOf (a .t)) (a .p) (a .e) (h .seam-is) (place-ends h) (one .2) f (filter-a h f full)
+    let one = given-b (a .l) (switchOf (a .s)) (switchOf (a .t)) (a .p) (a .e) (h .ends .seam-is) (h .ends .end-is) (lies-start h) f (filter-b h f full) (c .before .before .before .before .before .before .before .before .before .before .before .before .before .before .before .before .before .before .before .before .before .before .before .before .before .before .before .before .before .before .before .before .before .before .before .before .before .before .before .before .before .before .before .before .before .before .before .before .before .give .ensures) in
+    let two = given-a (a .l) (switchOf (a .s)) (switchOf (a .t)) (a .p) (a .e) (h .ends .seam-is) (h .ends .end-is) (one .2) f (filter-a h f full)
     (c .before .before .before .before .before .before .before .before .before .before .before .before .before .before .before .before .before .before .before .before .give2 .ensures ∙ ap₂ (λ o m. givePart (a .l) (switchOf (a .s)) o (a .p) (a .a) (a .p .keys) m f (tab (c .before .before .before .before .before .before .before .before .before .before .before .before .before .before .before .before .before .before .before .before .before .before .before .before .before .before .before .before .before .before .before .before .before .before .before .before .before .before .before .before .before .before .before .before .before .before .before .before .before .give .last .1 .1 .1 .1 .1 .1 .1 .1 .1 .0) (c .before .before .before .before .before .before .before .before .before .before .before .before .before .before .before .before .before .before .before .before .before .before .before .before .before .before .before .before .before .before .before .before .before .before .before .before .before .before .before .before .before .before .before .before .before .before .before .before .before .give .last .1 .1 .1 .1 .1 .1 .1 .1 .1 .1 .0) (c .before .before .before .before .before .before .before .before .before .before .before .before .before .before .before .before .before .before .before .before .before .before .before .before .before .before .before .before .before .before .before .before .before .before .before .before .before .before .before .before .before .before .before .before .before .before .before .before .before .give .last .1 .1 .1 .1 .1 .1 .1 .1 .1 .1 .1 .0) (c .before .before .before .before .before .before .before .before .before .before .before .before .before .before .before .before .before .before .before .before .before .before .before .before .before .before .before .before .before .before .before .before .before .before .before .before .before .before .before .before .before .before .before .before .before .before .before .before .before .give .last .1 .1 .1 .1 .1 .1 .1 .1 .1 .1 .1 .1 .0) (c .before .before .before .before .before .before .before .before .before .before .before .before .before .before .before .before .before .before .before .before .before .before .before .before .before .before .before .before .before .before .before .before .before .before .before .before .before .before .before .before .before .before .before .before .before .before .before .before .before .give .last .1 .1 .1 .1 .1 .1 .1 .1 .1 .1 .1 .1 .1 .0)) (records (c .before .before .before .before .before .before .before .before .before .before .before .before .before .before .before .before .before .before .before .before .before .before .before .before .before .before .before .before .before .before .before .before .before .before .before .before .before .before .before .before .before .before .before .before .before .before .before .before .before .give .last .1 .1 .1 .1 .1 .1 .1 .1 .1 .1 .1 .1 .1 .1 .0) (c .before .before .before .before .before .before .before .before .before .before .before .before .before .before .before .before .before .before .before .before .before .before .before .before .before .before .before .before .before .before .before .before .before .before .before .before .before .before .before .before .before .before .before .before .before .before .before .before .before .give .last .1 .1 .1 .1 .1 .1 .1 .1 .1 .1 .1 .1 .1 .1 .1 .0) (c .before .before .before .before .before .before .before .before .before .before .before .before .before .before .before .before .before .before .before .before .before .before .before .before .before .before .before .before .before .before .before .before .before .before .before .before .before .before .before .before .before .before .before .before .before .before .before .before .before .give .last .1 .1 .1 .1 .1 .1 .1 .1 .1 .1 .1 .1 .1 .1 .1 .1 .0)) (c .before .before .before .before .before .before .before .before .before .before .before .before .before .before .before .before .before .before .before .before .before .before .before .before .before .before .before .before .before .before .before .before .before .before .before .before .before .before .before .before .before .before .before .before .before .before .before .before .before .give .last .1 .1 .1 .1 .1 .1 .1 .1 .1 .1 .1 .1 .1 .1 .1 .1 .1 .0)) (c .before .before .before .before .before .before .before .before .before .before .before .before .before .before .before .before .before .before .before .before .before .before .before .before .before .before .before .before .before .before .origin .ensures) (one .0)) in
     let r = (areas (tab (a .xors .now) (a .flows .now) (a .unknowns .now) (a .positions .now) (a .marks .now)) (a .packets .now) (records (a .keys .now) (a .counts .now) (a .flags .now)) (a .seen .now)) in
     let fa = between 0 (a .p .filter) f in
@@ -76,8 +76,8 @@ add-settle-both-2 c =
       h .stands-a .fits .listed,
       both .stands-b .fits .listed,
       one .0,
-      table-high (a .l) (a .s .sizes) (h .lays) (h .ranged-a),
-      table-high (a .l) (a .t .sizes) (h .lays) (h .ranged-b),
+      table-high (a .l) (a .s .sizes) (h .ends .lays) (h .ends .ranged-a),
+      table-high (a .l) (a .t .sizes) (h .ends .lays) (h .ends .ranged-b),
       twelves-few (a .l) (switchOf (a .t)) fb ((partAt origin (a .p) (a .a) r) .list .keys) (a .a) (partAt (a .p) (a .e) (a .b) r) (one .1),
       twelves-few (a .l) (switchOf (a .s)) fa ((handList (a .l) (switchOf (a .t)) fb ((partAt origin (a .p) (a .a) r) .list .keys) (a .a) (partAt (a .p) (a .e) (a .b) r)) .list .keys) ((handList (a .l) (switchOf (a .t)) fb ((partAt origin (a .p) (a .a) r) .list .keys) (a .a) (partAt (a .p) (a .e) (a .b) r)) .listed) (partAt origin (a .p) (a .a) r) (two .1),
     )
@@ -89,8 +89,8 @@ settle-both-requires c κs =
     let h = start .pre .0 in
     let f = a .filter .now in
     let full = start .pre .1 in
-    let one = given-b (a .l) (switchOf (a .s)) (switchOf (a .t)) (a .p) (a .e) (h .seam-is) (place-ends h) (lies-start h) f (filter-b h f full) (c .before .before .before .before .before .before .before .before .before .before .before .before .before .before .before .before .before .before .before .before .before .before .before .before .before .before .before .before .before .before .before .before .before .before .before .before .before .before .before .before .before .before .before .before .before .before .before .before .before .before .before .before .before .before .before .before .before .before .before .give .ensures) in
-    let two = given-a (a .l) (switchOf (a .s)) (switchOf (a .t)) (a .p) (a .e) (h .seam-is) (place-ends h) (one .2) f (filter-a h f full)
+    let one = given-b (a .l) (switchOf (a .s)) (switchOf (a .t)) (a .p) (a .e) (h .ends .seam-is) (h .ends .end-is) (lies-start h) f (filter-b h f full) (c .before .before .before .before .before .before .before .before .before .before .before .before .before .before .before .before .before .before .before .before .before .before .before .before .before .before .before .before .before .before .before .before .before .before .before .before .before .before .before .before .before .before .before .before .before .before .before .before .before .before .before .before .before .before .before .before .before .before .before .give .ensures) in
+    let two = given-a (a .l) (switchOf (a .s)) (switchOf (a .t)) (a .p) (a .e) (h .ends .seam-is) (h .ends .end-is) (one .2) f (filter-a h f full)
     (c .before .before .before .before .before .before .before .before .before .before .before .before .before .before .before .before .before .before .before .before .before .before .before .before .before .before .before .before .before .before .give2 .ensures ∙ ap₂ (λ o m. givePart (a .l) (switchOf (a .s)) o (a .p) (a .a) (a .p .keys) m f (tab (c .before .before .before .before .before .before .before .before .before .before .before .before .before .before .before .before .before .before .before .before .before .before .before .before .before .before .before .before .before .before .before .before .before .before .before .before .before .before .before .before .before .before .before .before .before .before .before .before .before .before .before .before .before .before .before .before .before .before .before .give .last .1 .1 .1 .1 .1 .1 .1 .1 .1 .0) (c .before .before .before .before .before .before .before .before .before .before .before .before .before .before .before .before .before .before .before .before .before .before .before .before .before .before .before .before .before .before .before .before .before .before .before .before .before .before .before .before .before .before .before .before .before .before .before .before .before .before .before .before .before .before .before .before .before .before .before .give .last .1 .1 .1 .1 .1 .1 .1 .1 .1 .1 .0) (c .before .before .before .before .before .before .before .before .before .before .before .before .before .before .before .before .before .before .before .before .before .before .before .before .before .before .before .before .before .before .before .before .before .before .before .before .before .before .before .before .before .before .before .before .before .before .before .before .before .before .before .before .before .before .before .before .before .before .before .give .last .1 .1 .1 .1 .1 .1 .1 .1 .1 .1 .1 .0) (c .before .before .before .before .before .before .before .before .before .before .before .before .before .before .before .before .before .before .before .before .before .before .before .before .before .before .before .before .before .before .before .before .before .before .before .before .before .before .before .before .before .before .before .before .before .before .before .before .before .before .before .before .before .before .before .before .before .before .before .give .last .1 .1 .1 .1 .1 .1 .1 .1 .1 .1 .1 .1 .0) (c .before .before .before .before .before .before .before .before .before .before .before .before .before .before .before .before .before .before .before .before .before .before .before .before .before .before .before .before .before .before .before .before .before .before .before .before .before .before .before .before .before .before .before .before .before .before .before .before .before .before .before .before .before .before .before .before .before .before .before .give .last .1 .1 .1 .1 .1 .1 .1 .1 .1 .1 .1 .1 .1 .0)) (records (c .before .before .before .before .before .before .before .before .before .before .before .before .before .before .before .before .before .before .before .before .before .before .before .before .before .before .before .before .before .before .before .before .before .before .before .before .before .before .before .before .before .before .before .before .before .before .before .before .before .before .before .before .before .before .before .before .before .before .before .give .last .1 .1 .1 .1 .1 .1 .1 .1 .1 .1 .1 .1 .1 .1 .0) (c .before .before .before .before .before .before .before .before .before .before .before .before .before .before .before .before .before .before .before .before .before .before .before .before .before .before .before .before .before .before .before .before .before .before .before .before .before .before .before .before .before .before .before .before .before .before .before .before .before .before .before .before .before .before .before .before .before .before .before .give .last .1 .1 .1 .1 .1 .1 .1 .1 .1 .1 .1 .1 .1 .1 .1 .0) (c .before .before .before .before .before .before .before .before .before .before .before .before .before .before .before .before .before .before .before .before .before .before .before .before .before .before .before .before .before .before .before .before .before .before .before .before .before .before .before .before .before .before .before .before .before .before .before .before .before .before .before .before .before .before .before .before .before .before .before .give .last .1 .1 .1 .1 .1 .1 .1 .1 .1 .1 .1 .1 .1 .1 .1 .1 .0)) (c .before .before .before .before .before .before .before .before .before .before .before .before .before .before .before .before .before .before .before .before .before .before .before .before .before .before .before .before .before .before .before .before .before .before .before .before .before .before .before .before .before .before .before .before .before .before .before .before .before .before .before .before .before .before .before .before .before .before .before .give .last .1 .1 .1 .1 .1 .1 .1 .1 .1 .1 .1 .1 .1 .1 .1 .1 .1 .0)) (c .before .before .before .before .before .before .before .before .before .before .before .before .before .before .before .before .before .before .before .before .before .before .before .before .before .before .before .before .before .before .before .before .before .before .before .before .before .before .before .before .origin .ensures) (one .0)) in
     lies-at h (two .2) (two .0) (one .0)
 
@@ -141,11 +141,11 @@ returns c =
     let h = start .pre .0 in
     let f = a .filter .now in
     let full = start .pre .1 in
-    let one = given-b (a .l) (switchOf (a .s)) (switchOf (a .t)) (a .p) (a .e) (h .seam-is) (place-ends h) (lies-start h) f (filter-b h f full) (c .before .before .before .before .before .before .before .before .before .before .before .before .before .before .before .before .before .before .before .before .before .before .before .before .before .before .before .before .before .before .before .before .before .before .before .before .before .before .before .before .before .before .before .before .before .before .before .before .before .before .before .before .before .before .before .before .before .before .before .before .before .before .before .before .before .before .before .before .before .before .before .before .before .before .before .before .before .before .before .before .give .ensures) in
-    let two = given-a (a .l) (switchOf (a .s)) (switchOf (a .t)) (a .p) (a .e) (h .seam-is) (place-ends h) (one .2) f (filter-a h f full)
+    let one = given-b (a .l) (switchOf (a .s)) (switchOf (a .t)) (a .p) (a .e) (h .ends .seam-is) (h .ends .end-is) (lies-start h) f (filter-b h f full) (c .before .before .before .before .before .before .before .before .before .before .before .before .before .before .before .before .before .before .before .before .before .before .before .before .before .before .before .before .before .before .before .before .before .before .before .before .before .before .before .before .before .before .before .before .before .before .before .before .before .before .before .before .before .before .before .before .before .before .before .before .before .before .before .before .before .before .before .before .before .before .before .before .before .before .before .before .before .before .before .before .give .ensures) in
+    let two = given-a (a .l) (switchOf (a .s)) (switchOf (a .t)) (a .p) (a .e) (h .ends .seam-is) (h .ends .end-is) (one .2) f (filter-a h f full)
     (c .before .before .before .before .before .before .before .before .before .before .before .before .before .before .before .before .before .before .before .before .before .before .before .before .before .before .before .before .before .before .before .before .before .before .before .before .before .before .before .before .before .before .before .before .before .before .before .before .before .before .before .give2 .ensures ∙ ap₂ (λ o m. givePart (a .l) (switchOf (a .s)) o (a .p) (a .a) (a .p .keys) m f (tab (c .before .before .before .before .before .before .before .before .before .before .before .before .before .before .before .before .before .before .before .before .before .before .before .before .before .before .before .before .before .before .before .before .before .before .before .before .before .before .before .before .before .before .before .before .before .before .before .before .before .before .before .before .before .before .before .before .before .before .before .before .before .before .before .before .before .before .before .before .before .before .before .before .before .before .before .before .before .before .before .before .give .last .1 .1 .1 .1 .1 .1 .1 .1 .1 .0) (c .before .before .before .before .before .before .before .before .before .before .before .before .before .before .before .before .before .before .before .before .before .before .before .before .before .before .before .before .before .before .before .before .before .before .before .before .before .before .before .before .before .before .before .before .before .before .before .before .before .before .before .before .before .before .before .before .before .before .before .before .before .before .before .before .before .before .before .before .before .before .before .before .before .before .before .before .before .before .before .before .give .last .1 .1 .1 .1 .1 .1 .1 .1 .1 .1 .0) (c .before .before .before .before .before .before .before .before .before .before .before .before .before .before .before .before .before .before .before .before .before .before .before .before .before .before .before .before .before .before .before .before .before .before .before .before .before .before .before .before .before .before .before .before .before .before .before .before .before .before .before .before .before .before .before .before .before .before .before .before .before .before .before .before .before .before .before .before .before .before .before .before .before .before .before .before .before .before .before .before .give .last .1 .1 .1 .1 .1 .1 .1 .1 .1 .1 .1 .0) (c .before .before .before .before .before .before .before .before .before .before .before .before .before .before .before .before .before .before .before .before .before .before .before .before .before .before .before .before .before .before .before .before .before .before .before .before .before .before .before .before .before .before .before .before .before .before .before .before .before .before .before .before .before .before .before .before .before .before .before .before .before .before .before .before .before .before .before .before .before .before .before .before .before .before .before .before .before .before .before .before .give .last .1 .1 .1 .1 .1 .1 .1 .1 .1 .1 .1 .1 .0) (c .before .before .before .before .before .before .before .before .before .before .before .before .before .before .before .before .before .before .before .before .before .before .before .before .before .before .before .before .before .before .before .before .before .before .before .before .before .before .before .before .before .before .before .before .before .before .before .before .before .before .before .before .before .before .before .before .before .before .before .before .before .before .before .before .before .before .before .before .before .before .before .before .before .before .before .before .before .before .before .before .give .last .1 .1 .1 .1 .1 .1 .1 .1 .1 .1 .1 .1 .1 .0)) (records (c .before .before .before .before .before .before .before .before .before .before .before .before .before .before .before .before .before .before .before .before .before .before .before .before .before .before .before .before .before .before .before .before .before .before .before .before .before .before .before .before .before .before .before .before .before .before .before .before .before .before .before .before .before .before .before .before .before .before .before .before .before .before .before .before .before .before .before .before .before .before .before .before .before .before .before .before .before .before .before .before .give .last .1 .1 .1 .1 .1 .1 .1 .1 .1 .1 .1 .1 .1 .1 .0) (c .before .before .before .before .before .before .before .before .before .before .before .before .before .before .before .before .before .before .before .before .before .before .before .before .before .before .before .before .before .before .before .before .before .before .before .before .before .before .before .before .before .before .before .before .before .before .before .before .before .before .before .before .before .before .before .before .before .before .before .before .before .before .before .before .before .before .before .before .before .before .before .before .before .before .before .before .before .before .before .before .give .last .1 .1 .1 .1 .1 .1 .1 .1 .1 .1 .1 .1 .1 .1 .1 .0) (c .before .before .before .before .before .before .before .before .before .before .before .before .before .before .before .before .before .before .before .before .before .before .before .before .before .before .before .before .before .before .before .before .before .before .before .before .before .before .before .before .before .before .before .before .before .before .before .before .before .before .before .before .before .before .before .before .before .before .before .before .before .before .before .before .before .before .before .before .before .before .before .before .before .before .before .before .before .before .before .before .give .last .1 .1 .1 .1 .1 .1 .1 .1 .1 .1 .1 .1 .1 .1 .1 .1 .0)) (c .before .before .before .before .before .before .before .before .before .before .before .before .before .before .before .before .before .before .before .before .before .before .before .before .before .before .before .before .before .before .before .before .before .before .before .before .before .before .before .before .before .before .before .before .before .before .before .before .before .before .before .before .before .before .before .before .before .before .before .before .before .before .before .before .before .before .before .before .before .before .before .before .before .before .before .before .before .before .before .before .give .last .1 .1 .1 .1 .1 .1 .1 .1 .1 .1 .1 .1 .1 .1 .1 .1 .1 .0)) (c .before .before .before .before .before .before .before .before .before .before .before .before .before .before .before .before .before .before .before .before .before .before .before .before .before .before .before .before .before .before .before .before .before .before .before .before .before .before .before .before .before .before .before .before .before .before .before .before .before .before .before .before .before .before .before .before .before .before .before .before .before .origin .ensures) (one .0)) in
     let r = (areas (tab (a .xors .now) (a .flows .now) (a .unknowns .now) (a .positions .now) (a .marks .now)) (a .packets .now) (records (a .keys .now) (a .counts .now) (a .flags .now)) (a .seen .now)) in
-    round-left (a .l) (switchOf (a .s)) (switchOf (a .t)) (a .p) (a .e) (h .seam-is) (place-ends h) (between 0 (a .p .filter) f) (between (a .p .filter) (a .e .filter) f)
+    round-left (a .l) (switchOf (a .s)) (switchOf (a .t)) (a .p) (a .e) (h .ends .seam-is) (h .ends .end-is) (between 0 (a .p .filter) f) (between (a .p .filter) (a .e .filter) f)
     (partAt origin (a .p) (a .a) r) (partAt (a .p) (a .e) (a .b) r) (a .twelves) (two .2) (two .0) (one .0) (one .1) (two .1) (c .before .before .before .before .before .before .before .before .before .before .before .before .before .before .before .before .before .before .before .before .settle-both .ensures)
 
 pub one-round-spec : {M : Type 1} → statement M

@@ -7,7 +7,7 @@ use Rattle.parts.specs.Sides.{Stands}
 use Rattle.parts.specs.Areas.{origin, Inside, areas, partAt, settlePart}
 use Rattle.exchange.specs.Exchange.{switchOf}
 use Rattle.exchange.proofs.Both.{settles-a, settles-b}
-use Rattle.exchange.proofs.Steps.{place-ends, inside-a, inside-b, packets-a, packets-b, lies-start, lies-both, both-stopped, both-settled}
+use Rattle.exchange.proofs.Steps.{inside-a, inside-b, packets-a, packets-b, lies-start, lies-both, both-stopped, both-settled}
 use borrow.Author.Needs.{needs}
 use Rattle.exchange.proofs.settle_both.Statement.{statement}
 use Rattle.exchange.proofs.settle_both.Tie as tie
@@ -80,7 +80,7 @@ returns c =
     let s = (c .before .before .before .before .before .before .before .before .before .before .before .before .before .before .before .before .before .before .before .before .before .before .before .before .before .before .before .before .before .before .before .before .before .before .before .before .before .before .before .before .before .before .before .before) in
     let a = s .args in
     let r = (areas (tab (a .xors .now) (a .flows .now) (a .unknowns .now) (a .positions .now) (a .marks .now)) (a .packets .now) (records (a .keys .now) (a .counts .now) (a .flags .now)) (a .seen .now)) in
-    let one = settles-a (a .l) (switchOf (a .s)) (switchOf (a .t)) (a .p) (a .e) (s .pre .seam-is) (place-ends (s .pre)) (lies-start (s .pre))
+    let one = settles-a (a .l) (switchOf (a .s)) (switchOf (a .t)) (a .p) (a .e) (s .pre .ends .seam-is) (s .pre .ends .end-is) (lies-start (s .pre))
     (c .before .before .before .before .before .before .before .before .before .before .before .before .before .before .before .before .before .before .before .before .before .before .settle-part .ensures ∙ ap (λ o. settlePart (a .l) (switchOf (a .s)) o (a .p) (a .a) r) (c .before .before .before .before .before .before .before .before .before .before .before .before .before .before .before .before .before .before .before .before .before .before .before .before .before .before .before .before .before .before .before .before .before .origin .ensures)) in
     both-stopped (a .l) (switchOf (a .s)) (switchOf (a .t)) (partAt origin (a .p) (a .a) r) (partAt (a .p) (a .e) (a .b) r) (a .twelves) (c .before .match .keys2) (one .0) (c .after-a .ensures) (one .1 .is)
 
@@ -89,7 +89,7 @@ settle-part-requires-2 c κs =
     let s = (c .before .before .before .before .before .before .before .before .before .before .before .before .before .before .before .before .before .before .before .before .before .before .before .before .before .before .before .before .before .before .before .before .before .before .before .before .before .before .before .before .before .before .before .before .before .before .before .before .before .before .before .before .before .before .before) in
     let a = s .args in
     let r = (areas (tab (a .xors .now) (a .flows .now) (a .unknowns .now) (a .positions .now) (a .marks .now)) (a .packets .now) (records (a .keys .now) (a .counts .now) (a .flags .now)) (a .seen .now)) in
-    let one = settles-a (a .l) (switchOf (a .s)) (switchOf (a .t)) (a .p) (a .e) (s .pre .seam-is) (place-ends (s .pre)) (lies-start (s .pre))
+    let one = settles-a (a .l) (switchOf (a .s)) (switchOf (a .t)) (a .p) (a .e) (s .pre .ends .seam-is) (s .pre .ends .end-is) (lies-start (s .pre))
     (c .before .before .before .before .before .before .before .before .before .before .before .before .before .before .before .before .before .before .before .before .before .before .before .before .before .before .before .before .before .before .before .before .before .settle-part .ensures ∙ ap (λ o. settlePart (a .l) (switchOf (a .s)) o (a .p) (a .a) r) (c .before .before .before .before .before .before .before .before .before .before .before .before .before .before .before .before .before .before .before .before .before .before .before .before .before .before .before .before .before .before .before .before .before .before .before .before .before .before .before .before .before .before .before .before .origin .ensures)) in
     let now = lies-both (s .pre) (one .1) in
     (inside-b now, packets-b now, now .stands-b)
@@ -142,9 +142,9 @@ returns-2 c =
     let s = (c .before .before .before .before .before .before .before .before .before .before .before .before .before .before .before .before .before .before .before .before .before .before .before .before .before .before .before .before .before .before .before .before .before .before .before .before .before .before .before .before .before .before .before .before .before .before .before .before .before .before .before .before .before .before .before .before .before .before .before .before .before .before .before .before .before .before .before .before .before .before .before .before .before .before .before .before .before) in
     let a = s .args in
     let r = (areas (tab (a .xors .now) (a .flows .now) (a .unknowns .now) (a .positions .now) (a .marks .now)) (a .packets .now) (records (a .keys .now) (a .counts .now) (a .flags .now)) (a .seen .now)) in
-    let one = settles-a (a .l) (switchOf (a .s)) (switchOf (a .t)) (a .p) (a .e) (s .pre .seam-is) (place-ends (s .pre)) (lies-start (s .pre))
+    let one = settles-a (a .l) (switchOf (a .s)) (switchOf (a .t)) (a .p) (a .e) (s .pre .ends .seam-is) (s .pre .ends .end-is) (lies-start (s .pre))
     (c .before .before .before .before .before .before .before .before .before .before .before .before .before .before .before .before .before .before .before .before .before .before .before .before .before .before .before .before .before .before .before .before .before .before .before .before .before .before .before .before .before .before .before .before .before .before .before .before .before .before .before .before .before .before .before .settle-part .ensures ∙ ap (λ o. settlePart (a .l) (switchOf (a .s)) o (a .p) (a .a) r) (c .before .before .before .before .before .before .before .before .before .before .before .before .before .before .before .before .before .before .before .before .before .before .before .before .before .before .before .before .before .before .before .before .before .before .before .before .before .before .before .before .before .before .before .before .before .before .before .before .before .before .before .before .before .before .before .before .before .before .before .before .before .before .before .before .before .before .origin .ensures)) in
-    let two = settles-b (a .l) (switchOf (a .s)) (switchOf (a .t)) (a .p) (a .e) (s .pre .seam-is) (place-ends (s .pre)) (one .1) (c .before .before .before .before .before .before .before .before .before .before .before .before .before .before .before .before .before .before .before .before .before .settle-part2 .ensures) in
+    let two = settles-b (a .l) (switchOf (a .s)) (switchOf (a .t)) (a .p) (a .e) (s .pre .ends .seam-is) (s .pre .ends .end-is) (one .1) (c .before .before .before .before .before .before .before .before .before .before .before .before .before .before .before .before .before .before .before .before .before .settle-part2 .ensures) in
     both-settled (a .l) (switchOf (a .s)) (switchOf (a .t)) (partAt origin (a .p) (a .a) r) (partAt (a .p) (a .e) (a .b) r) (a .twelves) (c .before .before .before .before .before .before .before .before .before .before .before .before .before .before .before .before .before .before .before .before .before .before .before .before .before .before .before .before .before .before .before .before .before .x .given .1) (one .0) (two .0) (c .after-b .ensures) (two .1 .is)
 
 pub settle-both-spec : {M : Type 1} → statement M

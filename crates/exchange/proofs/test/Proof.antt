@@ -7,7 +7,7 @@ use Rattle.peeling.specs.Table.{tab}
 use Rattle.room.specs.Memory.{memory}
 use Rattle.parts.specs.Areas.{Near, placeAfter}
 use Rattle.exchange.specs.declared.Tested.the-variants as tested
-use Rattle.exchange.proofs.Testing.{not-passed, near-origin, near-seam, sizes-a, sizes-b, room-bad, need-a, not-a, need-b, not-b, other-slot, all-passed, bits-both}
+use Rattle.exchange.proofs.Testing.{not-passed, near-origin, near-seam, sizes-a, sizes-b, room-bad, need-a, not-a, need-b, not-b, other-slot, all-passed, index-both}
 use borrow.Author.Needs.{needs}
 use Rattle.exchange.proofs.test.Statement.{statement}
 use Rattle.exchange.proofs.test.Tie as tie
@@ -118,7 +118,7 @@ returns-7 c =
     let a = s .args in
     let m = (memory (a .filter .now) (tab (a .xors .now) (a .flows .now) (a .unknowns .now) (a .positions .now) (a .marks .now)) (a .packets .now) (records (a .keys .now) (a .counts .now) (a .flags .now))) in (
       all-passed (a .l) (a .s) (a .t) m (s .pre .0) (held (c .before .before .before .before .before .before .before .before .before .before .before .before .before .before .before .before .before .before .before .before .before .in-range .ensures) (c .before .before .before .before .before .before .before .before .before .before .before .before .before .before .before .before .before .before .before .before .if1 .left)) (held (c .before .before .before .before .before .before .before .before .before .before .before .before .before .before .before .before .before .before .before .in-range2 .ensures) (c .before .before .before .before .before .before .before .before .before .before .before .before .before .before .before .before .before .before .if2 .left)) (c .before .before .before .before .before .before .before .before .before .before .before .before .before .before .before .before .before .origin .ensures) (c .before .before .before .before .before .before .before .before .before .before .before .before .before .before .before .before .place-after .ensures) (c .before .before .before .before .before .before .before .before .before .before .before .before .before .before .before .place-after2 .ensures) (held (c .before .before .before .before .before .before .before .before .before .before .before .before .before .before .areas-fit .ensures) (c .before .before .before .before .before .before .before .before .before .before .before .before .before .if3 .left)) (a .seen .now) (s .pre .1) (c .before .before .before .before .before .before .before .before .before .before .before .is-session-part .ensures .0) (held refl (c .before .before .before .before .before .before .before .before .if4 .left)) (c .before .before .before .before .before .before .before .before .before .before .before .is-session-part .ensures .1) (c .before .before .before .before .before .before .is-session-part2 .ensures .0) (held refl (c .before .before .before .if5 .left)) (eq-eqb (a .s .slot) (a .t .slot) (c .if6 .left)),
-      λ q. bits-both (a .l) (a .s) (a .t) m (s .pre .0) (held (c .before .before .before .before .before .before .before .before .before .before .before .before .before .before .before .before .before .before .before .before .before .in-range .ensures) (c .before .before .before .before .before .before .before .before .before .before .before .before .before .before .before .before .before .before .before .before .if1 .left)) (held (c .before .before .before .before .before .before .before .before .before .before .before .before .before .before .before .before .before .before .before .in-range2 .ensures) (c .before .before .before .before .before .before .before .before .before .before .before .before .before .before .before .before .before .before .if2 .left)) (c .before .before .before .before .before .before .before .before .before .before .before .before .before .before .before .before .before .origin .ensures) (c .before .before .before .before .before .before .before .before .before .before .before .before .before .before .before .before .place-after .ensures) (c .before .before .before .before .before .before .before .before .before .before .before .before .before .before .before .place-after2 .ensures) (held (c .before .before .before .before .before .before .before .before .before .before .before .before .before .before .areas-fit .ensures) (c .before .before .before .before .before .before .before .before .before .before .before .before .before .if3 .left)) (a .seen .now) (s .pre .1) (c .before .before .before .before .before .before .before .before .before .before .before .is-session-part .ensures .0) (held refl (c .before .before .before .before .before .before .before .before .if4 .left)) (c .before .before .before .before .before .before .before .before .before .before .before .is-session-part .ensures .1) (c .before .before .before .before .before .before .is-session-part2 .ensures .0) (held refl (c .before .before .before .if5 .left)) (c .before .before .before .before .before .before .is-session-part2 .ensures .1),
+      λ q. index-both (a .l) (a .s) (a .t) m (s .pre .0) (held (c .before .before .before .before .before .before .before .before .before .before .before .before .before .before .before .before .before .before .before .before .before .in-range .ensures) (c .before .before .before .before .before .before .before .before .before .before .before .before .before .before .before .before .before .before .before .before .if1 .left)) (held (c .before .before .before .before .before .before .before .before .before .before .before .before .before .before .before .before .before .before .before .in-range2 .ensures) (c .before .before .before .before .before .before .before .before .before .before .before .before .before .before .before .before .before .before .if2 .left)) (c .before .before .before .before .before .before .before .before .before .before .before .before .before .before .before .before .before .origin .ensures) (c .before .before .before .before .before .before .before .before .before .before .before .before .before .before .before .before .place-after .ensures) (c .before .before .before .before .before .before .before .before .before .before .before .before .before .before .before .place-after2 .ensures) (held (c .before .before .before .before .before .before .before .before .before .before .before .before .before .before .areas-fit .ensures) (c .before .before .before .before .before .before .before .before .before .before .before .before .before .if3 .left)) (a .seen .now) (s .pre .1) (c .before .before .before .before .before .before .before .before .before .before .before .is-session-part .ensures .0) (held refl (c .before .before .before .before .before .before .before .before .if4 .left)) (c .before .before .before .before .before .before .before .before .before .before .before .is-session-part .ensures .1) (c .before .before .before .before .before .before .is-session-part2 .ensures .0) (held refl (c .before .before .before .if5 .left)) (c .before .before .before .before .before .before .is-session-part2 .ensures .1),
     )
 
 pub test-spec : {M : Type 1} → statement M

@@ -3,7 +3,7 @@ use lib.ListN.{length}
 use Rattle.hash.proofs.Apart.{places-within}
 use Rattle.layout.proofs.Ranges.{table-high}
 use Rattle.filter.proofs.Held.{bits-inside}
-use Rattle.peeling.proofs.Seen.{clear-new}
+use Rattle.peeling.proofs.Seen.{leads}
 use Rattle.handing.proofs.Answers.{answer-new, answer-listed, answer-empty, answer-many, answer-taken}
 use native.Mathlib.Omega.{arith}
 use borrow.Author.Needs.{needs}
@@ -38,10 +38,10 @@ is-found-requires c κs =
             (omega (arith, s .pre .1 .k-low)),
         table-high (a .l) (a .z) (s .pre .0) (s .pre .1),
       ),
-      s .pre .7 .words,
+      s .pre .7,
       s .pre .6,
       s .pre .3,
-      clear-new (a .l) (a .z) (a .salt) (a .n) (a .keys .now) (a .seen .now) (s .pre .7) (a .key .now) (s .pre .6) (s .pre .3) (s .pre .2),
+      leads (a .l) (a .z) (a .salt) (a .n) (a .keys .now) (a .seen .now) (s .pre .8) (a .key .now) (s .pre .2),
     )
 
 returns-2 : tie.Need-returns-2

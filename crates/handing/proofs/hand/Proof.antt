@@ -7,7 +7,7 @@ use Rattle.layout.proofs.Ranges.{table-high}
 use Rattle.list.specs.Records.{Records, records}
 use Rattle.list.proofs.Laws.{key-inside, keys-inside}
 use Rattle.peeling.specs.Table.{Tab, tab}
-use Rattle.peeling.proofs.Answers.{first-two}
+use Rattle.peeling.proofs.Answers.{first-two, listed-few}
 use Rattle.handing.specs.Hand.{answerOf}
 use Rattle.handing.specs.declared.Handed.{Handed}
 use Rattle.handing.specs.declared.Handed.the-variants.{Taken}
@@ -43,6 +43,7 @@ answer-requires c κs =
       s .pre .filter-fits,
       f .table .flows-fit,
       keys-inside (s .args .n) (f .room) (f .listed),
+      listed-few (s .args .l) (s .args .z) (s .args .salt) (s .args .n) (T s) (R s) (s .args .seen .now) f,
       f .covers,
     )
 
@@ -72,19 +73,20 @@ append-requires c κs =
     let h = room s (c .before .before .before .before .before .answer .ensures) (c .before .before .before .enum-told .given .1) in
     (s .pre .key-fits, key-inside (s .args .n) r h, omega (arith, r .counts-fit), omega (arith, r .flags-fit))
 
-seen-bit-requires : tie.Need-seen-bit-requires
-seen-bit-requires c κs =
+bucket-requires : tie.Need-bucket-requires
+bucket-requires c κs =
     let s = (c .before .before .before .before .before .before .before .before .before .before .before .before .before .before .before .before .before .before .before .before .before .before .before .before .before .before .before .before .before) in
     let a = s .args in
     first-two (a .l) (a .z) (a .salt) (a .n) (T s) (R s) (a .seen .now) (s .pre .fits) (a .key .now)
     (c .before .before .before .before .before .before .before .before .before .before .before .before .before .before .before .before .before .cells-of .ensures)
 
-put-mark-requires : tie.Need-put-mark-requires
-put-mark-requires c κs =
-    omega (
-      arith,
-      c .seen-bit .ensures,
-      (c .before .before .before .before .before .before .before .before .before .before .before .before .before .before .before .before .before .before .before .before .before .before .before .before .before .before .before .before .before .before) .pre .fits .covers .words,
+link-requires : tie.Need-link-requires
+link-requires c κs =
+    let s = (c .before .before .before .before .before .before .before .before .before .before .before .before .before .before .before .before .before .before .before .before .before .before .before .before .before .before .before .before .before .before) in
+    let a = s .args in (
+      s .pre .fits .covers .sized,
+      omega (arith, c .bucket .ensures),
+      omega (arith, room s (c .before .before .before .before .before .before .before .before .before .before .before .before .before .before .answer .ensures) (c .before .before .before .before .before .before .before .before .before .before .before .before .enum-told .given .1), table-high (a .l) (a .z) (s .pre .fits .table .lays) (s .pre .fits .table .ranged)),
     )
 
 cast-take-out : tie.Need-cast-take-out
@@ -133,7 +135,7 @@ returns-2 c =
     let a = s .args in
     hand-taken (a .l) (a .z) (a .salt) (a .n) (a .key .now) (a .filter .now) (T s) (R s) (a .seen .now) (s .pre .handed-is)
     (c .before .before .before .before .before .before .before .before .before .before .before .before .before .before .before .before .before .before .before .before .before .before .before .before .before .before .before .before .before .before .before .before .before .answer .ensures)
-    (c .before .before .before .before .before .before .before .before .before .before .before .before .before .before .before .before .before .before .before .before .before .before .before .before .before .before .before .before .before .before .before .enum-told .given .1) (c .before .before .before .before .before .before .before .before .before .before .before .before .before .before .before .before .before .before .before .before .before .before .before .before .before .before .before .before .before .before .before .before .before .before .before .before .before .cells-of .ensures) (c .before .before .before .before .before .before .before .before .before .before .before .before .before .before .before .before .before .before .before .before .before .before .before .before .before .before .before .append .ensures) (c .before .before .before .before .before .before .before .before .before .before .before .before .before .before .before .before .before .before .before .seen-bit .ensures) (c .before .before .before .before .before .before .before .before .before .before .before .before .before .before .before .before .before .before .put-mark .ensures) (c .before .before .before .before .before .before .before .before .before .before .take-out .ensures)
+    (c .before .before .before .before .before .before .before .before .before .before .before .before .before .before .before .before .before .before .before .before .before .before .before .before .before .before .before .before .before .before .before .enum-told .given .1) (c .before .before .before .before .before .before .before .before .before .before .before .before .before .before .before .before .before .before .before .before .before .before .before .before .before .before .before .before .before .before .before .before .before .before .before .before .before .cells-of .ensures) (c .before .before .before .before .before .before .before .before .before .before .before .before .before .before .before .before .before .before .before .before .before .before .before .before .before .before .before .append .ensures) (c .before .before .before .before .before .before .before .before .before .before .before .before .before .before .before .before .before .before .before .bucket .ensures) (c .before .before .before .before .before .before .before .before .before .before .before .before .before .before .before .before .before .before .link .ensures) (c .before .before .before .before .before .before .before .before .before .before .take-out .ensures)
 
 pub hand-spec : {M : Type 1} → statement M
 hand-spec =
@@ -147,8 +149,8 @@ hand-spec =
     same-length-3
     returns
     append-requires
-    seen-bit-requires
-    put-mark-requires
+    bucket-requires
+    link-requires
     cast-take-out
     take-out-requires
     same-length-4

@@ -164,7 +164,7 @@ returns c =
       words = p .words + (n + 63) / 64;
       records = p .records + 2 * n;
       keys = p .keys + 2 * n * l .key;
-      seen = p .seen + 256;
+      seen = p .seen + 11264;
     }) (c .before .before .before .before .before .before .before .before .before .before .table-cells .ensures) (c .before .before .before .before .before .before .before .before .before .filter-bytes .ensures)
 
 pub place-after-spec : {M : Type 1} → statement M

@@ -10,7 +10,7 @@ use Rattle.hash.specs.Places.{cellOf}
 use Rattle.list.specs.Records.{Records, records, keyAt}
 use Rattle.list.proofs.Laws.{key-part, length-key, key-inside, keys-inside, key-small}
 use Rattle.peeling.specs.Table.{Tab, tab, InBytes}
-use Rattle.peeling.proofs.Answers.{xor-inside, key-back, back-inside, first-two, all-places, clear-means-new}
+use Rattle.peeling.proofs.Answers.{xor-inside, key-back, back-inside, first-two, all-places, listed-few, leads-to}
 use Rattle.peeling.proofs.Answers.{peel-quiet, peel-full, peel-damaged, peel-taken}
 use borrow.Author.Needs.{needs}
 use Rattle.peeling.proofs.peel.Statement.{statement}
@@ -129,10 +129,10 @@ is-damaged-requires c κs =
     (c .before .before .before .before .before .before .before .before .before .before .before .before .before .before .before .before .table-cells .ensures) (c .before .before .before .before .before .before .before .before .before .before .before .before .before .if1 .left) in (
       first-two (a .l) (a .z) (a .salt) (a .n) (T s) (R s) (a .seen .now) (s .pre) key
           (c .before .before .before .before .before .cells-of .ensures),
-      s .pre .covers .words,
+      listed-few (a .l) (a .z) (a .salt) (a .n) (T s) (R s) (a .seen .now) (s .pre),
       keys-inside (a .n) (s .pre .room) (s .pre .listed),
       len,
-      clear-means-new (a .l) (a .z) (a .salt) (a .n) (T s) (R s) (a .seen .now) (s .pre) key len
+      leads-to (a .l) (a .z) (a .salt) (a .n) (T s) (R s) (a .seen .now) (s .pre) key
           (c .before .before .before .before .before .cells-of .ensures),
       s .pre .table .ranged .k-high,
       all-places (a .l) (a .z) (a .salt) (a .n) (T s) (R s) (a .seen .now) (s .pre) key
@@ -184,20 +184,20 @@ append-requires c κs =
       omega (arith, room .flags-fit, c .before .before .before .before .before .before .before .before .before .before .before .before .before .before .before .before .before .before .before .before .before .before .before .table-cells .ensures, c .before .before .before .before .before .before .before .before .before .before .before .before .before .before .before .before .before .before .before .if2 .left),
     )
 
-seen-bit-requires : tie.Need-seen-bit-requires
-seen-bit-requires c κs =
+bucket-requires : tie.Need-bucket-requires
+bucket-requires c κs =
     let s = (c .before .before .before .before .before .before .before .before .before .before .before .before .before .before .before .before .before .before .before .before .before .before .before .before .before .before .before .before .before .before .before .before .before .before .before .before .before .before .before .before .before) in
     let a = s .args in
     first-two (a .l) (a .z) (a .salt) (a .n) (T s) (R s) (a .seen .now) (s .pre)
     (part s (a .xors .now)
     (c .before .before .before .before .before .before .before .before .before .before .before .before .before .before .before .before .before .before .before .before .before .before .before .before .before .before .before .before .before .first-mark .result)) (c .before .before .before .before .before .before .before .before .before .before .before .before .before .before .before .before .before .before .before .before .cells-of .ensures)
 
-put-mark-requires : tie.Need-put-mark-requires
-put-mark-requires c κs =
-    omega (
-      arith,
-      c .seen-bit .ensures,
-      (c .before .before .before .before .before .before .before .before .before .before .before .before .before .before .before .before .before .before .before .before .before .before .before .before .before .before .before .before .before .before .before .before .before .before .before .before .before .before .before .before .before .before) .pre .covers .words,
+link-requires : tie.Need-link-requires
+link-requires c κs =
+    let s = (c .before .before .before .before .before .before .before .before .before .before .before .before .before .before .before .before .before .before .before .before .before .before .before .before .before .before .before .before .before .before .before .before .before .before .before .before .before .before .before .before .before .before) in (
+      s .pre .covers .sized,
+      omega (arith, c .bucket .ensures),
+      omega (arith, table-high (s .args .l) (s .args .z) (s .pre .table .lays) (s .pre .table .ranged), c .before .before .before .before .before .before .before .before .before .before .before .before .before .before .before .before .before .before .before .before .before .before .before .before .before .before .before .before .if2 .left, c .before .before .before .before .before .before .before .before .before .before .before .before .before .before .before .before .before .before .before .before .before .before .before .before .before .before .before .before .before .before .before .before .table-cells .ensures),
     )
 
 sub-take-out : tie.Need-sub-take-out
@@ -273,7 +273,7 @@ returns-4 c =
     (c .before .before .before .before .before .before .before .before .before .before .before .before .before .before .before .before .before .before .before .before .before .before .before .before .before .before .before .before .before .before .before .before .before .before .before .before .before .before .before .before .before .before .before .before .before .before .before .before .before .before .before .before .before .table-cells .ensures) (c .before .before .before .before .before .before .before .before .before .before .before .before .before .before .before .before .before .before .before .before .before .before .before .before .before .before .before .before .before .before .before .before .before .before .before .before .before .before .before .before .before .before .before .before .before .before .before .before .before .before .before .first-mark .ensures) (c .before .before .before .before .before .before .before .before .before .before .before .before .before .before .before .before .before .before .before .before .before .before .before .before .before .before .before .before .before .before .before .before .before .before .before .before .before .before .before .before .before .before .before .before .before .before .before .before .before .before .if1 .left) (c .before .before .before .before .before .before .before .before .before .before .before .before .before .before .before .before .before .before .before .before .before .before .before .before .before .before .before .before .before .before .before .before .before .before .before .before .before .before .before .before .before .before .before .before .before .before .before .before .before .if2 .left)
     (part-is s (a .xors .now)
     (c .before .before .before .before .before .before .before .before .before .before .before .before .before .before .before .before .before .before .before .before .before .before .before .before .before .before .before .before .before .before .before .before .before .before .before .before .before .before .before .before .before .before .before .before .before .before .before .before .before .before .before .first-mark .result)) (c .before .before .before .before .before .before .before .before .before .before .before .before .before .before .before .before .before .before .before .before .before .before .before .before .before .before .before .before .before .before .before .before .before .before .before .before .before .before .before .before .before .before .cells-of .ensures) (c .before .before .before .before .before .before .before .before .before .before .before .before .before .before .before .before .before .before .before .before .before .before .before .before .before .before .before .before .before .before .before .before .before .before .before .before .is-damaged .ensures) (c .before .before .before .before .before .before .before .before .before .before .before .before .before .before .before .before .before .before .before .before .before .before .before .before .before .before .before .before .before .before .before .before .before .before .before .if3 .left)
-    (c .before .before .before .before .before .before .before .before .before .before .before .before .before .before .before .before .before .before .before .before .before .before .before .before .before .before .before .before .before .append .ensures) (c .before .before .before .before .before .before .before .before .before .before .before .before .before .before .before .before .before .before .before .before .before .seen-bit .ensures) (c .before .before .before .before .before .before .before .before .before .before .before .before .before .before .before .before .before .before .before .before .put-mark .ensures) back (c .before .before .before .before .before .before .before .before .before .before .take-out .ensures)
+    (c .before .before .before .before .before .before .before .before .before .before .before .before .before .before .before .before .before .before .before .before .before .before .before .before .before .before .before .before .before .append .ensures) (c .before .before .before .before .before .before .before .before .before .before .before .before .before .before .before .before .before .before .before .before .before .bucket .ensures) (c .before .before .before .before .before .before .before .before .before .before .before .before .before .before .before .before .before .before .before .before .link .ensures) back (c .before .before .before .before .before .before .before .before .before .before .take-out .ensures)
 
 pub peel-spec : {M : Type 1} → statement M
 peel-spec =
@@ -308,8 +308,8 @@ peel-spec =
     part-append-start
     part-append-end
     append-requires
-    seen-bit-requires
-    put-mark-requires
+    bucket-requires
+    link-requires
     sub-take-out
     part-take-out-start
     part-take-out-end

@@ -1,3 +1,4 @@
+use Rattle.index.proofs.Index.{empty-zeros}
 -- `session::hand_over_in` meets its contract.
 use native.Mathlib.Omega.{arith}
 use Rattle.list.specs.Records.{records}
@@ -18,7 +19,8 @@ slice-aggregate-test : tie.Need-slice-aggregate-test
 slice-aggregate-test c = search needs
 
 test-requires : tie.Need-test-requires
-test-requires c κs = search needs
+test-requires c κs =
+    ((c .before .before .before .before .before .before .before .before .before .before .before .before .before .before .before .before .before .before .before .before) .pre .0, empty-zeros)
 
 enum-told : tie.Need-enum-told
 enum-told c = search needs

@@ -1,3 +1,4 @@
+use Rattle.index.proofs.Index.{empty-zeros}
 -- `session::report_in` meets its contract.
 use Rattle.list.specs.Records.{records}
 use Rattle.peeling.specs.Table.{tab}
@@ -17,7 +18,7 @@ slice-aggregate-test : tie.Need-slice-aggregate-test
 slice-aggregate-test c = search needs
 
 test-requires : tie.Need-test-requires
-test-requires c κs = search needs
+test-requires c κs = ((c .before .before .before .before .before .before .before .before .before .before .before) .pre, empty-zeros)
 
 enum-told : tie.Need-enum-told
 enum-told c = search needs

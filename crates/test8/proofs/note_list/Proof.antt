@@ -9,7 +9,7 @@ use Rattle.hash.specs.Places.{cellOf}
 use Rattle.list.proofs.Laws.{key-part, length-key}
 use Rattle.test8.specs.Given.{oneMore, mixedIn, noted, seenUpto}
 use Rattle.test8.specs.Test8.{keysRepeat}
-use Rattle.test8.proofs.Notes.{places-small, places-wide, clear-here, bit-here, seen-turn, length-seen, noted-turn, length-noted, repeat-turn}
+use Rattle.test8.proofs.Notes.{places-small, places-wide, leads-here, bucket-here, seen-turn, length-seen, noted-turn, length-noted, repeat-turn}
 use Rattle.test8.proofs.note_list.Statement.{statement}
 use Rattle.test8.proofs.note_list.Tie as tie
 use Rattle.laws.proofs.Rows.{row-within}
@@ -78,33 +78,30 @@ is-found-requires c κs =
     let at = c .before .before .cells-of .ensures in
     let seen = q .loop .inv .2 in (
       places-small (a .l) (a .z) (s .pre .0) (s .pre .1) (a .salt) _ at,
-      ap length seen ∙ length-seen (a .l) (a .z) (a .salt) (a .keys .now) (a .seen .now) i ∙ s .pre .5,
+      omega (arith, s .pre .2),
       omega arith,
       ap length key ∙ length-key (a .l) (a .keys .now) i (omega arith),
-      clear-here (a .l) (a .z) (a .salt) (a .keys .now) i (a .seen .now) (omega arith) (s .pre .5) key at seen,
+      leads-here (a .l) (a .z) (a .salt) (a .keys .now) i (a .seen .now) (omega (arith, s .pre .2)) (s .pre .5) at seen,
     )
 
 either-requires : tie.Need-either-requires Inv-loop μ-loop
 either-requires c κs = tt
 
-seen-bit-requires : tie.Need-seen-bit-requires Inv-loop μ-loop
-seen-bit-requires c κs =
+bucket-requires : tie.Need-bucket-requires Inv-loop μ-loop
+bucket-requires c κs =
     let m = c .before .before .before .before .before in
     let q = m .before .before .before .before .before in
     let s = q .before .before .before .before .before .before in
     let a = s .args in
     places-small (a .l) (a .z) (s .pre .0) (s .pre .1) (a .salt) _ (m .cells-of .ensures)
 
-put-mark-requires : tie.Need-put-mark-requires Inv-loop μ-loop
-put-mark-requires c κs =
-    let m = c .before .before .before .before .before .before in
-    let q = m .before .before .before .before .before in
-    let a = q .before .before .before .before .before .before .args in
-    omega (
-      arith,
-      c .seen-bit .ensures,
-      ap length (q .loop .inv .2) ∙ length-seen (a .l) (a .z) (a .salt) (a .keys .now) (a .seen .now)
-          (q .loop .i),
+link-requires : tie.Need-link-requires Inv-loop μ-loop
+link-requires c κs =
+    let s = (c .before .before .before .before .before .before .before .before .before .before .before .before .before .before .before .before .before) in
+    let a = s .args in (
+      ap length (c .before .before .before .before .before .before .before .before .before .before .before .loop .inv .2) ∙ length-seen (a .l) (a .z) (a .salt) (a .keys .now) (a .seen .now) (c .before .before .before .before .before .before .before .before .before .before .before .loop .i) ∙ s .pre .5 .sized,
+      omega (arith, c .bucket .ensures),
+      omega (arith, s .pre .2, c .before .before .before .before .before .before .before .before .before .before .loop-test .taken),
     )
 
 shared-slice-read-note-flow : tie.Need-shared-slice-read-note-flow Inv-loop μ-loop
@@ -157,9 +154,9 @@ loop-again c =
           (k .before .before .before .before .before .before .before .is-found .ensures)
           (k .before .before .before .before .before .before .either .ensures),
       seen-turn (a .l) (a .z) (a .salt) (a .keys .now) (a .seen .now) i
-          (bit-here (a .l) (a .z) (a .salt) (a .keys .now) i key (m .cells-of .ensures)
-          (k .before .before .before .before .seen-bit .ensures))
-          (q .loop .inv .2) (k .before .before .before .put-mark .ensures),
+          (bucket-here (a .l) (a .z) (a .salt) (a .keys .now) i key (m .cells-of .ensures)
+          (k .before .before .before .before .bucket .ensures))
+          (q .loop .inv .2) (k .before .before .before .link .ensures),
       noted-turn (a .l) (a .z) (s .pre .0) (s .pre .1) (a .salt) oneMore (a .keys .now) (a .flags .now) i (a .unknowns .now) at refl
           (q .loop .inv .3) (c .before .before .before .before .note-flow .ensures .0),
       noted-turn (a .l) (a .z) (s .pre .0) (s .pre .1) (a .salt) mixedIn (a .keys .now) (a .flags .now) i (a .positions .now) at refl
@@ -213,8 +210,8 @@ note-list-spec =
     part-is-found-end
     is-found-requires
     either-requires
-    seen-bit-requires
-    put-mark-requires
+    bucket-requires
+    link-requires
     shared-slice-read-note-flow
     cast-note-flow
     note-flow-requires

@@ -3,7 +3,7 @@
 use super::sessions::sequences;
 use super::{printing_inputs, requests, session_requests};
 use crate::random::Random;
-use crate::request::{Request, EXCHANGE, HASH, PLACES};
+use crate::request::{Request, HASH, PLACES};
 use crate::sequence::{print_request, LINES, MAX_LINES};
 
 /// Of each kind `count`, but for those that the library has no call for.
@@ -13,7 +13,7 @@ pub fn call_requests(seed: u64, count: usize) -> Vec<Request> {
     all.extend(session_requests(seed, count));
     all.extend((0..count / 4).map(|number| sequences::request(random, number)));
     all.extend(printing_inputs(seed, count / 8).iter().enumerate().map(|(number, input)| printing(number, input)));
-    all.retain(|request| ![HASH, PLACES, EXCHANGE].contains(&request.op));
+    all.retain(|request| ![HASH, PLACES].contains(&request.op));
     all
 }
 

@@ -1,7 +1,7 @@
 use native.Mathlib.Omega.{arith}
 use borrow.Author.Needs.{needs}
-use Rattle.peeling.proofs.seen_bit.Statement.{statement}
-use Rattle.peeling.proofs.seen_bit.Tie as tie
+use Rattle.peeling.proofs.bucket.Statement.{statement}
+use Rattle.peeling.proofs.bucket.Tie as tie
 
 element-copy-out-result : tie.Need-element-copy-out-result
 element-copy-out-result c = search needs
@@ -18,7 +18,7 @@ add-result c = omega (arith, (c .before .before) .pre 0 (omega arith), (c .befor
 returns : tie.Need-returns
 returns c = search needs
 
-pub seen-bit-spec : {M : Type 1} → statement M
-seen-bit-spec =
+pub bucket-spec : {M : Type 1} → statement M
+bucket-spec =
     tie.close
     (tie.spec element-copy-out-result mul-result element-copy-out-result-2 add-result returns)
