@@ -1,4 +1,4 @@
-// What the test programs have in common: writing a line piece by piece, and filling buffers from a generator. It rests on laws and the toolchain's io.
+// What a test program needs: writing a line piece by piece, and filling buffers from a generator. It rests on laws and the toolchain's io.
 ghost use mathlib.Core.Path.{_≡_};
 ghost use Prim.Native.Nat.{min};
 ghost use lib.ListN.{length};

@@ -54,7 +54,7 @@ use std::io::{self, Read, Write};
 use std::process::ExitCode;
 
 use expected::{expected_call_kinds, expected_kinds, expected_session_kinds};
-use request::{Request, EXCHANGE};
+use request::Request;
 
 const USAGE: &str = "usage: independent answer < REQUESTS
        independent requests SEED COUNT
@@ -62,7 +62,7 @@ const USAGE: &str = "usage: independent answer < REQUESTS
        independent compare TRIAL SEED COUNT
        independent compare TRIAL edges
        independent session-requests SEED COUNT
-       independent compare-sessions REHEARSAL SEED COUNT [single]
+       independent compare-sessions CALLS SEED COUNT
        independent compare-calls CALLS SEED COUNT
        independent compare-files CALLS FOLDER
        independent store-calls FOLDER SEED COUNT
@@ -109,8 +109,11 @@ fn run(words: &[&str]) -> io::Result<bool> {
             let requests = generate::requests(number(seed)?, number(count)? as usize);
             print_comparison(trial, &format!("seed {seed} count {count}"), &requests, &expected_kinds())
         }
-        ["compare-sessions", program, seed, count] => compare_sessions(program, seed, count, true),
-        ["compare-sessions", program, seed, count, "single"] => compare_sessions(program, seed, count, false),
+        ["compare-sessions", program, seed, count] => {
+            let requests = generate::session_requests(number(seed)?, number(count)? as usize);
+            let expected = if requests.len() < LONG_ENOUGH { Vec::new() } else { expected_session_kinds() };
+            print_comparison(program, &format!("sessions, seed {seed} count {count}"), &requests, &expected)
+        }
         ["compare-calls", program, seed, count] => {
             let requests = generate::calls::call_requests(number(seed)?, number(count)? as usize);
             let expected = if number(count)? < LONG_ENOUGH_FOR_CALLS { Vec::new() } else { expected_call_kinds() };
@@ -144,17 +147,6 @@ fn run(words: &[&str]) -> io::Result<bool> {
         ["selftest"] => Ok(selftest::selftest()),
         _ => Err(io::Error::other(USAGE)),
     }
-}
-
-/// Requests on sessions; without those on two of them where the program under test has no exchange.
-fn compare_sessions(program: &str, seed: &str, count: &str, exchanges: bool) -> io::Result<bool> {
-    let mut requests = generate::session_requests(number(seed)?, number(count)? as usize);
-    let mut expected = if requests.len() < LONG_ENOUGH { Vec::new() } else { expected_session_kinds() };
-    if !exchanges {
-        requests.retain(|request| request.op != EXCHANGE);
-        expected.retain(|kind| !kind.starts_with("exchange "));
-    }
-    print_comparison(program, &format!("sessions, seed {seed} count {count}"), &requests, &expected)
 }
 
 fn number(word: &str) -> io::Result<u64> {
