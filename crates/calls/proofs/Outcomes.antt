@@ -5,7 +5,7 @@ use Prim.Native.Nat.{ℕ}
 use denote.Ref.{now}
 use Rattle.laws.specs.Outcomes.{Determined}
 use Rattle.laws.proofs.Outcomes.{both}
-use Rattle.peeling.specs.Table.{tab}
+use Rattle.table.specs.Table.{tab}
 use Rattle.opening.specs.declared.Opened.{Opened}
 use Rattle.session.specs.declared.HandOver.{HandOver}
 use Rattle.session.specs.declared.Settled.{Settled}

@@ -10,7 +10,7 @@ use Rattle.layout.specs.Sizes.{ipv4Layout}
 use Rattle.list.specs.Records.{Records, records}
 use Rattle.packet.specs.declared.Key.{Key}
 use Rattle.packet.specs.Key.{keyBytes}
-use Rattle.peeling.specs.Table.{Tab}
+use Rattle.table.specs.Table.{Tab}
 use Rattle.room.specs.declared.Session.{Session}
 use Rattle.room.specs.Memory.{Memory, memory}
 use Rattle.opening.specs.declared.Opened.{Opened}

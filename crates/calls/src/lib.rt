@@ -6,7 +6,7 @@ ghost use Prim.Native.Nat.{_≤_};
 ghost use lib.ListN.{length};
 ghost use Rattle.list.specs.Records.{records};
 ghost use Rattle.packet.specs.Key.{keyBytes};
-ghost use Rattle.peeling.specs.Table.{tab};
+ghost use Rattle.table.specs.Table.{tab};
 ghost use Rattle.room.specs.Memory.{memory};
 ghost use Rattle.calls.specs.Calls.{Arrays, lent, ran, overFirst, settling, handing, opening, reporting, called, settleRecords, handRecords, openRecords, reportRecords, taken};
 use opening::Opened;

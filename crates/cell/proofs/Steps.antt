@@ -1,7 +1,7 @@
 -- What each step leaves in its own cell, and that it leaves every other cell and every zero byte as it was.
 use mathlib.Core.Path.{_≡_, refl, sym, ap, _∙_}
 use mathlib.Core.Bool.{Bool, true, false, cond}
-use mathlib.Core.List.{List, _++_}
+use mathlib.Core.List.{List}
 use mathlib.Core.Logic.{_⊎_, inl, inr}
 use Prim.Native.Nat.{ℕ, _+_, _*_, _%_, _^_, _<_, _≤_}
 use native.Mathlib.Nat.{mul-le-mul, add-mul, add-assoc, add-zero, mod-mod}
@@ -13,10 +13,10 @@ use Rattle.laws.specs.Xor.{xorBytes}
 use Rattle.laws.specs.BigEndian.{bytesOf, numberOf}
 use Rattle.laws.proofs.Xor.{xorBytes-length}
 use Rattle.laws.proofs.BigEndian.{bytes-same}
-use Rattle.laws.proofs.Lists.{length-part, part-same, part-sets-same, part-sets-other, sets-before, sets-after, lent-sets}
+use Rattle.laws.proofs.Lists.{length-part, part-same, part-sets-same, part-sets-other, sets-before, sets-after}
 use Rattle.layout.specs.declared.Layout.{Layout}
 use Rattle.layout.specs.Sizes.{Lays}
-use Rattle.fields.specs.Field.{field, withField}
+use Rattle.fields.specs.Field.{field, withField, xoredAt}
 use Rattle.fields.proofs.Fields.{length-with, field-same, field-other, part-other, byte-other}
 use Rattle.cell.specs.Cell.{InTable, flowXorAt, flowCountAt, packetCountAt, flowCountPlace, packetCountPlace, withKey, addFlow, addPacket, takeAt}
 
@@ -40,22 +40,16 @@ unfolding addPacket packetCountAt
 packet-counted l cells c {x = x} e f =
     field-wraps 4 cells (packetCountPlace l c) x (field 4 cells (packetCountPlace l c) + 1) (f ∙ ap (λ y. (y + 1) % 2 ^ 32) e)
 
+pub key-mixed : (l : Layout) (cells : List ℕ) (c : ℕ) (key : List ℕ) → length key ≡ l .key → xoredAt cells (c * l .cell) key ≡ withKey l cells c key
+unfolding xoredAt withKey flowXorAt
+key-mixed l cells c key e = rw e
+
 module _ (l : Layout) (lays : Lays l) (cells : List ℕ) (c : ℕ) (inside : InTable l (length cells) c) where
   xor-length : (key : List ℕ) → length key ≡ l .key → length (xorBytes (flowXorAt l cells c) key) ≡ l .key
   unfolding flowXorAt
   xor-length key e =
       xorBytes-length (take (l .key) (drop (c * l .cell) cells)) key (l .key)
       (length-part cells (c * l .cell) (l .key) (omega (arith, lays .key-fits))) e
-
-  pub key-mixed : (key : List ℕ) {k : ℕ} {new : List ℕ} → length key ≡ l .key → k ≡ l .key
-      → new ≡ xorBytes (take k (drop (c * l .cell) cells)) key
-      → take (c * l .cell) cells ++ (new ++ drop k (drop (c * l .cell) cells)) ≡ withKey l cells c key
-  unfolding withKey
-  key-mixed key {k} {new} e q f =
-      let is : new ≡ xorBytes (flowXorAt l cells c) key = f ∙ ap (λ m. xorBytes (take m (drop (c * l .cell) cells)) key) q
-      ∙ unfold flowXorAt in refl in
-      rw is
-      (lent-sets (xorBytes (flowXorAt l cells c) key) cells (c * l .cell) k (xor-length key e ∙ sym q) (omega (arith, lays .key-fits)))
 
   pub length-key : (key : List ℕ) → length (withKey l cells c key) ≡ length cells
   unfolding withKey

@@ -22,23 +22,13 @@ pub fn packet_count(l: Layout, cells: &[u8], c: usize) -> u32
     fields::long_at(cells, c * l.cell + l.key + 3)
 }
 
-// XORs a key into FlowXOR of cell c.
-fn mix_key(l: Layout, cells: &mut [u8], c: usize, key: &[u8])
-    requires { ⌜ Lays l × InTable l (length (now cells)) c × (length (now key) ≡ l .key) ⌝ }
-    ensures { λ _. ⌜ now (cells .exit) ≡ withKey l (now (cells .entry)) c (now (key .entry)) ⌝ }
-{
-    let a = c * l.cell;
-    let e = a + l.key;
-    fields::xor_in(&mut cells[a..e], key);
-}
-
 // A new flow in cell c: its key, and 1 to FlowCount. A full counter would start again at 0: the caller refuses it.
 fn add_flow(l: Layout, cells: &mut [u8], c: usize, key: &[u8])
     requires { ⌜ Lays l × InTable l (length (now cells)) c × (length (now key) ≡ l .key) ⌝ }
     ensures { λ _. ⌜ now (cells .exit) ≡ addFlow l (withKey l (now (cells .entry)) c (now (key .entry))) c ⌝ }
 {
     let at = c * l.cell + l.key + 1;
-    mix_key(l, cells, c, key);
+    fields::xor_at(cells, c * l.cell, key);
     let flows = fields::short_at(cells, at);
     fields::put_short(cells, at, std::num::wrapping_add_u16(flows, 1));
 }

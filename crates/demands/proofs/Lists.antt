@@ -12,7 +12,7 @@ use Rattle.layout.specs.declared.Sizes.{Sizes}
 use Rattle.layout.specs.Sizes.{tableCells}
 use Rattle.filter.specs.Filter.{isNew}
 use Rattle.list.specs.Records.{Records, isListed}
-use Rattle.peeling.specs.Table.{Tab, hasEmpty}
+use Rattle.table.specs.Table.{Tab, hasEmpty}
 use Rattle.peeling.specs.Peel.{listedAt}
 use Rattle.test8.specs.Test8.{isSession, handedIn}
 use Rattle.settling.specs.Settle.{settleOf}

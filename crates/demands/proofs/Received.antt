@@ -13,7 +13,7 @@ use Rattle.layout.specs.Sizes.{Lays, Ranged, tableCells, cellBytes, filterBytes
 use Rattle.layout.proofs.Ranges.{range-test}
 use Rattle.marks.specs.Marks.{Words, putMark, wordsFor}
 use Rattle.marks.proofs.Laws.{words-put}
-use Rattle.peeling.specs.Table.{pureAt}
+use Rattle.table.specs.Table.{pureAt}
 use Rattle.image.specs.Block.{imageOf}
 use Rattle.image.specs.Read.{readOf, cellsIn, filterIn}
 use Rattle.image.specs.Seal.{Sealable, sealOf, sealRooms, zeroBytes}

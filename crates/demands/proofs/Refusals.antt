@@ -23,7 +23,7 @@ use Rattle.image.specs.Read.{blockAt, badLength, checks, sizesIn, formed, readL
 use Rattle.image.specs.declared.Sealed.the-variants as sealed
 use Rattle.image.specs.declared.Reading.the-variants as read
 use Rattle.list.specs.Records.{isListed}
-use Rattle.peeling.specs.Table.{hasEmpty}
+use Rattle.table.specs.Table.{hasEmpty}
 use Rattle.test8.specs.Test8.{isSession, handedIn}
 use Rattle.room.specs.declared.Session.{Session}
 use Rattle.room.specs.Memory.{Memory, roomFits}

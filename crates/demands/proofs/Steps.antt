@@ -54,7 +54,7 @@ module _ (l : Layout) (v : Live) (p : Passing l v) where
   }
 
   -- lists that show a session are followed by those numbers and that room
-  followed : {n : ℕ} {t : Rattle.peeling.specs.Table.Tab} {packets : List ℕ} {rs : Rattle.list.specs.Records.Records}
+  followed : {n : ℕ} {t : Rattle.table.specs.Table.Tab} {packets : List ℕ} {rs : Rattle.list.specs.Records.Records}
       {q : Rattle.theory.specs.Session.Session} → Shows l z (s .salt) n t packets rs q
       → Follows l v q (live (withListed s n) (memory (m .filter) t packets rs))
   followed h = record {

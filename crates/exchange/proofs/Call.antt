@@ -13,9 +13,9 @@ use Rattle.layout.specs.declared.Sizes.{Sizes}
 use Rattle.layout.specs.Sizes.{Lays, Ranged, tableCells}
 use Rattle.layout.proofs.Ranges.{ranged, table-high}
 use Rattle.list.specs.Records.{Records}
-use Rattle.peeling.specs.Table.{Tab}
+use Rattle.table.specs.Table.{Tab}
 use Rattle.index.proofs.Index.{empty-zeros}
-use Rattle.peeling.specs.Seen.{Covers}
+use Rattle.found.specs.Seen.{Covers}
 use Rattle.test8.specs.Test8.{overListed, isSession}
 use Rattle.test8.specs.Given.{seenUpto}
 use Rattle.test8.proofs.Answers as test8

@@ -13,7 +13,7 @@ use Rattle.layout.specs.Sizes.{tableCells, filterBytes}
 use Rattle.layout.proofs.Ranges.{table-high, cell-high}
 use Rattle.list.specs.Records.{Records, keyAt}
 use Rattle.list.proofs.Laws.{length-key}
-use Rattle.peeling.specs.Table.{Tab}
+use Rattle.table.specs.Table.{Tab}
 use Rattle.room.specs.declared.Session.{Session}
 use Rattle.parts.specs.declared.Place.{Place}
 use Rattle.parts.specs.Sides.{Switch, Side, Stands, Given, given, handKeys, handList, withGiven}

@@ -14,7 +14,7 @@ use Rattle.layout.specs.declared.Sizes.{Sizes}
 use Rattle.layout.specs.Sizes.{Lays, Ranged, inRange, tableCells, filterBytes}
 use Rattle.layout.proofs.Ranges.{ranged, table-high, cell-high}
 use Rattle.list.specs.Records.{Records, Room}
-use Rattle.peeling.specs.Table.{Fit}
+use Rattle.table.specs.Table.{Fit}
 use Rattle.test8.specs.Test8.{overListed, isSession}
 use Rattle.index.specs.Index.{Empty}
 use Rattle.index.proofs.Index.{empty-zeros}

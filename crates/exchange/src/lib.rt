@@ -6,7 +6,7 @@ ghost use Prim.Native.Nat.{_+_, _*_, _≤_};
 ghost use lib.ListN.{length, replicate};
 ghost use Rattle.layout.specs.Sizes.{Lays, ipv4Layout};
 ghost use Rattle.list.specs.Records.{records};
-ghost use Rattle.peeling.specs.Table.{tab};
+ghost use Rattle.table.specs.Table.{tab};
 ghost use Rattle.peeling.specs.Peel.{listedAt};
 ghost use Rattle.room.specs.Memory.{memory};
 ghost use Rattle.parts.specs.Areas.{between, areas};

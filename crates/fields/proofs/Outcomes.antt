@@ -12,6 +12,8 @@ use Rattle.fields.proofs.put_long.Kinds as put-long-kinds
 use Rattle.fields.proofs.put_long.Reads as put-long
 use Rattle.fields.proofs.xor_in.Kinds as xor-in-kinds
 use Rattle.fields.proofs.xor_in.Reads as xor-in
+use Rattle.fields.proofs.xor_at.Kinds as xor-at-kinds
+use Rattle.fields.proofs.xor_at.Reads as xor-at
 use Rattle.fields.proofs.copy_in.Kinds as copy-in-kinds
 use Rattle.fields.proofs.copy_in.Reads as copy-in
 use Rattle.fields.proofs.clear.Kinds as clear-kinds
@@ -33,6 +35,9 @@ put-long-determined κs a p z z′ ws ws′ e e′ = (refl, both (e ∙ sym e′
 
 pub xor-in-determined : Determined _ xor-in-kinds.ps xor-in-kinds.r xor-in.Asked xor-in.Learnt
 xor-in-determined κs a p z z′ ws ws′ e e′ = (refl, both (e ∙ sym e′) refl)
+
+pub xor-at-determined : Determined _ xor-at-kinds.ps xor-at-kinds.r xor-at.Asked xor-at.Learnt
+xor-at-determined κs a p z z′ ws ws′ e e′ = (refl, both (e ∙ sym e′) refl)
 
 pub copy-in-determined : Determined _ copy-in-kinds.ps copy-in-kinds.r copy-in.Asked copy-in.Learnt
 copy-in-determined κs a p z z′ ws ws′ e e′ = (refl, both (e ∙ sym e′) refl)

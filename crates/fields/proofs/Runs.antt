@@ -12,8 +12,10 @@ use lib.ListN.{length, getD, set, take, drop, replicate, length-set, length-repl
 use lib.Seq.{ext-getD, take-all}
 use borrow.Author.Tests.{eqb-true}
 use Rattle.laws.specs.Xor.{xorBytes}
+use Rattle.laws.proofs.Lists.{length-part, lent-sets}
 use Rattle.laws.proofs.Upto.{all-at, all-yes}
-use Rattle.fields.specs.Field.{allZero}
+use Rattle.laws.proofs.Xor.{xorBytes-length}
+use Rattle.fields.specs.Field.{xoredAt, allZero}
 
 -- the first k bytes of s XORed with those of key, the rest as it was: what the loop holds after k turns
 unfoldable pub xorUpto : ℕ → List ℕ → List ℕ → List ℕ
@@ -34,6 +36,16 @@ xor-turn (suc k) (x ∷ s) (y ∷ key) p q = ap (bitXor x y ∷_) (xor-turn k s 
 pub xor-whole : (k : ℕ) (s key : List ℕ) → length s ≤ k → length key ≤ k → xorUpto k s key ≡ xorBytes s key
 unfolding xorUpto
 xor-whole k s key p q = rw (take-all k s p, take-all k key q, drop-of-length-le s p) (append-nil (xorBytes s key))
+
+-- a run XORed into a part that is lent for it
+pub part-xored : (s bytes : List ℕ) (at : ℕ) {k : ℕ} {new : List ℕ} → at + length bytes ≤ length s → k ≡ length bytes
+    → new ≡ xorBytes (take k (drop at s)) bytes → take at s ++ (new ++ drop k (drop at s)) ≡ xoredAt s at bytes
+unfolding xoredAt
+part-xored s bytes at {k} {new} h q f =
+    let part = take (length bytes) (drop at s) in
+    let new-is : new ≡ xorBytes part bytes = f ∙ ap (λ m. xorBytes (take m (drop at s)) bytes) q in
+    let e = xorBytes-length part bytes (length bytes) (length-part s at (length bytes) h) refl in
+    rw new-is (lent-sets (xorBytes part bytes) s at k (e ∙ sym q) (omega (arith, q, h)))
 
 -- the first k bytes copied
 pub copy-turn : (k : ℕ) (s bytes : List ℕ) → k < length s → k < length bytes

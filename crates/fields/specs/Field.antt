@@ -7,6 +7,7 @@ use lib.ListN.{length, getD, take, drop}
 use lib.Seq.{sets}
 use Rattle.laws.specs.BigEndian.{bytesOf, numberOf}
 use Rattle.laws.specs.Upto.{allUpto}
+use Rattle.laws.specs.Xor.{xorBytes}
 
 -- the number in the n bytes from place `at` on
 unfoldable pub field : ℕ → List ℕ → ℕ → ℕ
@@ -15,6 +16,10 @@ field n s at = numberOf (take n (drop at s))
 -- the list with a number in the n bytes from place `at` on
 unfoldable pub withField : ℕ → List ℕ → ℕ → ℕ → List ℕ
 withField n s at x = sets s at (bytesOf n x)
+
+-- the list with a run of bytes XORed into those from place `at` on
+unfoldable pub xoredAt : List ℕ → ℕ → List ℕ → List ℕ
+xoredAt s at bytes = sets s at (xorBytes (take (length bytes) (drop at s)) bytes)
 
 -- every byte is zero
 unfoldable pub allZero : List ℕ → Bool

@@ -3,7 +3,7 @@ ghost use mathlib.Core.Path.{_≡_};
 ghost use Prim.Native.Nat.{_+_, _≤_};
 ghost use lib.ListN.{length, take, replicate};
 ghost use Rattle.laws.specs.Xor.{xorBytes};
-ghost use Rattle.fields.specs.Field.{field, withField, allZero};
+ghost use Rattle.fields.specs.Field.{field, withField, xoredAt, allZero};
 
 // The number in the 2 bytes from place `at` on.
 pub fn short_at(s: &[u8], at: usize) -> u16
@@ -51,6 +51,15 @@ pub fn xor_in(s: &mut [u8], bytes: &[u8])
         s[i] = s[i] ^ bytes[i];
         i += 1;
     }
+}
+
+// XORs a run of bytes into those from place `at` on.
+pub fn xor_at(s: &mut [u8], at: usize, bytes: &[u8])
+    requires { ⌜ at + length (now bytes) ≤ length (now s) ⌝ }
+    ensures { λ _. ⌜ now (s .exit) ≡ xoredAt (now (s .entry)) at (now (bytes .entry)) ⌝ }
+{
+    let e = at + bytes.len();
+    xor_in(&mut s[at..e], bytes);
 }
 
 // Copies a run of bytes over another of its length.

@@ -23,7 +23,7 @@ use Rattle.marks.specs.Marks.{firstMark}
 use Rattle.packet.specs.declared.Key.{Key}
 use Rattle.packet.specs.Key.{keyBytes}
 use Rattle.packet.proofs.KeyBytes.{key-are-bytes}
-use Rattle.peeling.specs.Table.{Tab, mixed, takenAt, takenOut}
+use Rattle.table.specs.Table.{Tab, mixed, takenAt, takenOut}
 use Rattle.peeling.specs.Peel as peeling
 use Rattle.peeling.specs.declared.Step.{Step}
 use Rattle.peeling.specs.declared.Step.the-variants as peel

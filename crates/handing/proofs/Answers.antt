@@ -18,9 +18,9 @@ use Rattle.filter.specs.Filter.{anyClear, isNew}
 use Rattle.filter.proofs.Held.{clear-new}
 use Rattle.list.specs.Records.{Records, isListed, appended}
 use Rattle.index.specs.Index.{linked}
-use Rattle.peeling.specs.Table.{Tab, anyEmpty, hasEmpty, takenOut}
-use Rattle.peeling.specs.Seen.{bucket, bucketOf}
-use Rattle.peeling.proofs.Table.{empty-is}
+use Rattle.table.specs.Table.{Tab, anyEmpty, hasEmpty, takenOut}
+use Rattle.found.specs.Seen.{bucket, bucketOf}
+use Rattle.table.proofs.Table.{empty-is}
 use Rattle.test8.specs.Test8.{handedIn}
 use Rattle.handing.specs.Hand.{answerOf, handing, afterAnswer, handOf, handNumber, Hands}
 use Rattle.handing.specs.declared.Handed.{Handed}

@@ -16,11 +16,11 @@ use Rattle.layout.specs.Sizes.{tableCells}
 use Rattle.list.specs.Records.{Records, isHanded, appended}
 use Rattle.list.proofs.Laws.{key-inside, room-appended}
 use Rattle.index.specs.Index.{linked}
-use Rattle.peeling.specs.Table.{Tab, takenOut}
-use Rattle.peeling.specs.Seen.{bucketOf}
+use Rattle.table.specs.Table.{Tab, takenOut}
+use Rattle.found.specs.Seen.{bucketOf}
 use Rattle.peeling.specs.Peel.{Fits}
-use Rattle.peeling.proofs.Table.{fit-out}
-use Rattle.peeling.proofs.Seen.{covers-more}
+use Rattle.table.proofs.Table.{fit-out}
+use Rattle.found.proofs.Seen.{covers-more}
 use Rattle.test8.specs.Test8.{handedIn}
 use Rattle.handing.specs.Hand.{answerOf, Handing, handing, afterAnswer, handOf, handNumber, Hands}
 use Rattle.handing.specs.declared.Handed.{Handed}

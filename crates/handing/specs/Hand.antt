@@ -11,8 +11,8 @@ use Rattle.layout.specs.Sizes.{tableCells, filterBytes}
 use Rattle.filter.specs.Filter.{isNew}
 use Rattle.list.specs.Records.{Records, isListed, appended}
 use Rattle.index.specs.Index.{linked}
-use Rattle.peeling.specs.Table.{Tab, hasEmpty, takenOut}
-use Rattle.peeling.specs.Seen.{bucketOf}
+use Rattle.table.specs.Table.{Tab, hasEmpty, takenOut}
+use Rattle.found.specs.Seen.{bucketOf}
 use Rattle.peeling.specs.Peel.{Fits}
 use Rattle.test8.specs.Test8.{handedIn}
 use Rattle.handing.specs.declared.Handed.{Handed}

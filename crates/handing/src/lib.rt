@@ -1,4 +1,4 @@
-// Hand-over of one key to a session that passed the test of 8. It rests on filter, on list, and on peeling for taking a key out.
+// Hand-over of one key to a session that passed the test of 8. It rests on filter, on list, on found for listed keys, and on table for taking a key out.
 ghost use mathlib.Core.Path.{_≡_};
 ghost use Prim.Native.Nat.{_*_, _≤_};
 ghost use lib.ListN.{length};
@@ -6,8 +6,8 @@ ghost use Rattle.laws.specs.Upto.{listUpto};
 ghost use Rattle.layout.specs.Sizes.{Lays, Ranged, tableCells, filterBytes};
 ghost use Rattle.hash.specs.Places.{cellOf};
 ghost use Rattle.list.specs.Records.{records};
-ghost use Rattle.peeling.specs.Table.{tab};
-ghost use Rattle.peeling.specs.Seen.{Covers};
+ghost use Rattle.table.specs.Table.{tab};
+ghost use Rattle.found.specs.Seen.{Covers};
 ghost use Rattle.handing.specs.Hand.{answerOf, handing, handOf, Hands};
 use hash::Cells;
 use layout::Layout;
@@ -45,10 +45,10 @@ fn answer(
     if filter::any_clear(filter, bits, z.kf) {
         return Handed::NotInFilter;
     }
-    if peeling::is_found(l, n, at, key, keys, seen) {
+    if found::is_found(l, n, at, key, keys, seen) {
         return Handed::Listed;
     }
-    if peeling::any_empty(at, z.k, flows) {
+    if table::any_empty(at, z.k, flows) {
         return Handed::EmptyCell;
     }
     if handed >= layout::table_cells(l, z) {
@@ -90,8 +90,8 @@ pub fn hand(
         return a;
     };
     list::append(l, n, key, 2, keys, counts, flags);
-    index::link(seen, peeling::bucket(at), n);
-    peeling::take_out(
+    index::link(seen, found::bucket(at), n);
+    table::take_out(
         l,
         z,
         salt,

@@ -20,6 +20,13 @@ use Rattle.hash.specs.Fnv.{hashOf, place}
 use Rattle.hash.specs.Places.{cellOf, bitOf, bitsOf, hasCell, cellRole, filterRole, Within}
 use Rattle.hash.proofs.Chain.{hash-lt, place-lt}
 
+-- the cell that the code works out from one chain of the hash
+pub cell-chosen : (l : Layout) (z : Sizes) (salt i : ℕ) (key : List ℕ) {s h p : ℕ} → s ≡ partCells l z → h ≡ hashOf salt cellRole i key
+    → p ≡ place h s
+    → i * s + p ≡ cellOf l z salt key i
+unfolding cellOf
+cell-chosen l z salt i key e f g = rw (g, f, e)
+
 module _ (l : Layout) (z : Sizes) (lays : Lays l) (r : Ranged z) (salt : ℕ) (key : List ℕ) where
   in-part : (i : ℕ) → place (hashOf salt cellRole i key) (partCells l z) < partCells l z
   in-part i = place-lt (hashOf salt cellRole i key) (partCells l z) (hash-lt salt cellRole i key) (part-low l z lays r)

@@ -15,6 +15,8 @@ use Rattle.hash.proofs.place.Kinds as place-kinds
 use Rattle.hash.proofs.place.Reads as place
 use Rattle.hash.proofs.fnv_of_four.Kinds as four-kinds
 use Rattle.hash.proofs.fnv_of_four.Reads as four
+use Rattle.hash.proofs.cell_of.Kinds as cell-of-kinds
+use Rattle.hash.proofs.cell_of.Reads as cell-of
 use Rattle.hash.proofs.cells_of.Kinds as cells-of-kinds
 use Rattle.hash.proofs.cells_of.Reads as cells-of
 use Rattle.hash.proofs.bits_of.Kinds as bits-of-kinds
@@ -67,6 +69,9 @@ place-determined κs a p z z′ ws ws′ e e′ = (e ∙ sym e′, refl)
 
 pub four-determined : Determined _ four-kinds.ps four-kinds.r four.Asked four.Learnt
 four-determined κs a p z z′ ws ws′ e e′ = (lanes-alone z z′ (e ∙ sym e′), refl)
+
+pub cell-of-determined : Determined _ cell-of-kinds.ps cell-of-kinds.r cell-of.Asked cell-of.Learnt
+cell-of-determined κs a p z z′ ws ws′ e e′ = (e ∙ sym e′, refl)
 
 pub cells-of-determined : Determined _ cells-of-kinds.ps cells-of-kinds.r cells-of.Asked cells-of.Learnt
 cells-of-determined κs a p z z′ ws ws′ e e′ = (cells-alone z z′ (e ∙ sym e′), refl)

@@ -2,7 +2,7 @@
 // Four chains, or eight, run beside each other, over one key or over a slice each, since one chain alone waits for its multiply at every byte.
 ghost use mathlib.Core.Path.{_≡_};
 ghost use mathlib.Core.List.{_∷_, [], _++_};
-ghost use Prim.Native.Nat.{_+_, _≤_};
+ghost use Prim.Native.Nat.{_+_, _≤_, _<_};
 ghost use lib.ListN.{length};
 ghost use Rattle.laws.specs.BigEndian.{bytesOf};
 ghost use Rattle.laws.specs.Upto.{listUpto};
@@ -183,6 +183,16 @@ fn eight_hashes(salt: u32, role: u8, key: &[u8]) -> Eight
         i += 1;
     }
     Eight { low, high }
+}
+
+// The cell that hash i chooses for a key.
+pub fn cell_of(l: Layout, z: Sizes, salt: u32, i: usize, key: &[u8]) -> usize
+    requires { ⌜ Lays l × Ranged z × (i < z .k) ⌝ }
+    ensures { λ r. ⌜ r ≡ cellOf l z salt (now (key .entry)) i ⌝ }
+{
+    let s = layout::part_cells(l, z);
+    let h = Fnv::seeded(salt, 0x43, i as u8).bytes(key);
+    i * s + (place(h.state, s as u32) as usize)
 }
 
 // A flow's cells: the first k of four.

@@ -17,7 +17,7 @@ use Rattle.laws.proofs.Lowest.{number-rest}
 use Rattle.layout.specs.declared.Layout.{Layout}
 use Rattle.layout.specs.Sizes.{tableCells}
 use Rattle.list.specs.Records.{Records, keyAt, isHanded}
-use Rattle.peeling.specs.Table.{Tab}
+use Rattle.table.specs.Table.{Tab}
 use Rattle.peeling.specs.declared.Stop.{Stop}
 use Rattle.peeling.specs.declared.Stop.the-variants as stop
 use Rattle.test8.specs.Test8.{isSession, handedIn, peeledIn}

@@ -26,8 +26,8 @@ use Rattle.list.specs.Records.{keyAt}
 use Rattle.list.proofs.Laws.{length-key, key-appended}
 use Rattle.marks.specs.Marks.{Words, wordsFor, marked, firstMark}
 use Rattle.marks.proofs.Laws.{marked-same, marked-other, words-put, first-marked, below-first}
-use Rattle.peeling.specs.Table.{Tab, Fit, pureAt, mixed, oneLess, takenAt, takenOut}
-use Rattle.peeling.proofs.Table.{fit-at}
+use Rattle.table.specs.Table.{Tab, Fit, pureAt, mixed, oneLess, takenAt, takenOut}
+use Rattle.table.proofs.Table.{fit-at}
 use Rattle.link.specs.View.{below, Spot, spotAt}
 use Rattle.laws.proofs.Rows.{row-within}
 use Rattle.laws.proofs.Lowest.{lowest-is}

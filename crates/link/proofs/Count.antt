@@ -21,7 +21,7 @@ use Rattle.hash.specs.Places.{hasCell}
 use Rattle.list.specs.Records.{Records, keyAt, withCount}
 use Rattle.marks.specs.Marks.{Words, marked, firstMark}
 use Rattle.marks.proofs.Laws.{length-put, marked-same, marked-other, words-put, first-marked}
-use Rattle.peeling.specs.Table.{Tab, Fit}
+use Rattle.table.specs.Table.{Tab, Fit}
 use Rattle.counting.specs.Book.{Book, book, exceeds, readyAt, withReady, readyUpto, toldOut}
 use Rattle.counting.specs.Count.{Counted, counted, countDamaged, countAt, countOf}
 use Rattle.counting.specs.declared.Step.the-variants.{Quiet, Damaged, Next}

@@ -11,7 +11,7 @@ use Rattle.layout.specs.Sizes.{tableCells}
 use Rattle.hash.specs.Places.{hasCell}
 use Rattle.list.specs.Records.{Records, keyAt, withCount}
 use Rattle.marks.specs.Marks.{firstMark}
-use Rattle.peeling.specs.Table.{Tab, tab}
+use Rattle.table.specs.Table.{Tab, tab}
 use Rattle.counting.specs.Book.{Book, readyAt, toldOut}
 use Rattle.counting.specs.Count.{Counted, Ended, afterCount, countOf, countsUpto}
 use Rattle.counting.specs.declared.Stop as counting

@@ -18,7 +18,7 @@ use Rattle.hash.specs.Places.{hasCell}
 use Rattle.list.specs.Records.{Records, keyAt, appended}
 use Rattle.list.proofs.Laws.{length-key}
 use Rattle.marks.specs.Marks.{marked, firstMark}
-use Rattle.peeling.specs.Table.{Tab, Fit, hasEmpty, takenOut}
+use Rattle.table.specs.Table.{Tab, Fit, hasEmpty, takenOut}
 use Rattle.peeling.specs.Peel.{Peeled, peeled, Ended, peelDamaged, peelTaken, peelAt, peelOf, afterPeel, peelsUpto, listedAt}
 use Rattle.peeling.specs.declared.Step.the-variants.{Quiet, Full, Damaged}
 use Rattle.theory.specs.Flow.{Key}

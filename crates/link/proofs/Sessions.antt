@@ -9,7 +9,7 @@ use Rattle.layout.specs.declared.Sizes.{Sizes}
 use Rattle.layout.specs.Sizes.{tableCells}
 use Rattle.hash.specs.Places.{hasCell}
 use Rattle.list.specs.Records.{Records, appended}
-use Rattle.peeling.specs.Table.{Tab, takenOut}
+use Rattle.table.specs.Table.{Tab, takenOut}
 use Rattle.peeling.specs.Peel.{listedAt}
 use Rattle.peeling.specs.declared.Stop.the-variants.{Full}
 use Rattle.settling.specs.Settle.{settleOf}

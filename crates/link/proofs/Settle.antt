@@ -17,7 +17,7 @@ use Rattle.layout.specs.Sizes.{tableCells}
 use Rattle.layout.proofs.Ranges.{table-high}
 use Rattle.hash.specs.Places.{hasCell}
 use Rattle.list.specs.Records.{Records}
-use Rattle.peeling.specs.Table.{Tab, tab}
+use Rattle.table.specs.Table.{Tab, tab}
 use Rattle.peeling.specs.Peel.{peelsOf, listedAt}
 use Rattle.peeling.specs.declared.Stop.{Stop}
 use Rattle.peeling.specs.declared.Stop.the-variants.{Done, Full, Damaged}

@@ -19,8 +19,8 @@ use Rattle.hash.specs.Places.{hasCell}
 use Rattle.hash.proofs.Apart.{has-within}
 use Rattle.list.specs.Records.{Records, appended}
 use Rattle.list.proofs.Laws.{room-appended}
-use Rattle.peeling.specs.Table.{Tab, Fit, takenOut}
-use Rattle.peeling.proofs.Table.{fit-out}
+use Rattle.table.specs.Table.{Tab, Fit, takenOut}
+use Rattle.table.proofs.Table.{fit-out}
 use Rattle.theory.specs.Flow.{Key}
 use Rattle.theory.specs.Encode.{Placement, emptyTable}
 use Rattle.theory.specs.Session.{Session, pure, takeOut}

@@ -21,7 +21,7 @@ use Rattle.hash.specs.Places.{hasCell}
 use Rattle.hash.proofs.Apart.{has-within}
 use Rattle.list.specs.Records.{Records, Room, keyAt, isKnown, isListed}
 use Rattle.marks.specs.Marks.{wordsFor, marked}
-use Rattle.peeling.specs.Table.{Tab, pureAt}
+use Rattle.table.specs.Table.{Tab, pureAt}
 use Rattle.test8.specs.Test8.{overListed, keysRepeat, zeroCount, handedIn, peeledIn, openIn, numbersIn, agrees, marksRight, restClear}
 use Rattle.test8.specs.Test8.{unknownIn, unknownsGiven, positionsGiven, notesRight, isSession}
 use Rattle.theory.specs.Flow.{Key, sameKey, among, Distinct}

@@ -21,8 +21,8 @@ use Rattle.list.specs.Records.{Records, keyAt, withCount}
 use Rattle.list.proofs.Laws.{room-told}
 use Rattle.marks.specs.Marks.{Words, marked}
 use Rattle.marks.proofs.Laws.{length-put, marked-same, marked-other, words-put}
-use Rattle.peeling.specs.Table as peeling
-use Rattle.peeling.specs.Table.{Tab}
+use Rattle.table.specs.Table as table-cells
+use Rattle.table.specs.Table.{Tab}
 use Rattle.counting.specs.Book.{Book, readyAt, toldAt, toldOut}
 use Rattle.theory.specs.Flow.{Key}
 use Rattle.theory.specs.Encode.{Placement, emptyTable}
@@ -139,7 +139,7 @@ module _ (l : Layout) (z : Sizes) (salt n : ℕ) (t : Tab) (b : Book) (rs : Reco
     (r : Ready (tableCells l z) (t .flows) b) (key : Key) (v j : ℕ) where
   open Held h using (lent, listed, few)
   open Lent lent using (table, words)
-  open peeling.Fit table using (lays, ranged, xors-fit, marks-fit)
+  open table-cells.Fit table using (lays, ranged, xors-fit, marks-fit)
 
   abbrev size : ℕ
   size = tableCells l z

@@ -6,7 +6,7 @@ use Rattle.layout.specs.declared.Layout.{Layout}
 use Rattle.layout.specs.declared.Sizes.{Sizes}
 use Rattle.layout.specs.Sizes.{tableCells}
 use Rattle.hash.specs.Places.{hasCell}
-use Rattle.peeling.specs.Table.{Tab, tab}
+use Rattle.table.specs.Table.{Tab, tab}
 use Rattle.peeling.specs.Peel.{Ended as PeelEnd, listedAt}
 use Rattle.counting.specs.Count.{Ended as CountEnd}
 use Rattle.peeling.specs.declared.Step.{Step as PeelStep}

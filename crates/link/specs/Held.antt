@@ -9,7 +9,7 @@ use Rattle.layout.specs.declared.Sizes.{Sizes}
 use Rattle.layout.specs.Sizes.{tableCells}
 use Rattle.list.specs.Records.{Records, Room}
 use Rattle.marks.specs.Marks.{Words, marked}
-use Rattle.peeling.specs.Table.{Tab, tab, Fit}
+use Rattle.table.specs.Table.{Tab, tab, Fit}
 use Rattle.counting.specs.Book.{Book, readyAt}
 use Rattle.hash.specs.Places.{hasCell}
 use Rattle.theory.specs.Flow.{Distinct}

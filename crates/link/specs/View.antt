@@ -10,7 +10,7 @@ use Rattle.layout.specs.declared.Sizes.{Sizes}
 use Rattle.layout.specs.Sizes.{tableCells}
 use Rattle.list.specs.Records.{Records, keyAt, isKnown, isHanded}
 use Rattle.marks.specs.Marks.{marked}
-use Rattle.peeling.specs.Table.{Tab}
+use Rattle.table.specs.Table.{Tab}
 use Rattle.theory.specs.Encode.{Cell, Table, emptyTable}
 use Rattle.theory.specs.Session.{Record, Session}
 use Rattle.theory.specs.Notes.{Notes, Noted}

@@ -15,7 +15,7 @@ use Rattle.layout.specs.declared.Sizes.{Sizes}
 use Rattle.layout.specs.Sizes.{tableCells}
 use Rattle.marks.specs.Marks.{wordsFor, marked, putMark}
 use Rattle.marks.proofs.Laws.{length-put, marked-same, marked-other}
-use Rattle.peeling.specs.Table.{pureAt}
+use Rattle.table.specs.Table.{pureAt}
 use Rattle.test8.specs.Test8.{agrees, marksRight, restClear}
 use Rattle.opening.specs.Open.{marksOf}
 

@@ -15,7 +15,7 @@ use Rattle.image.specs.declared.Reading.the-variants as read
 use Rattle.image.specs.Read.{readOf, filterIn}
 use Rattle.image.proofs.Reading as reading
 use Rattle.list.specs.Records.{records}
-use Rattle.peeling.specs.Table.{tab}
+use Rattle.table.specs.Table.{tab}
 use Rattle.room.specs.declared.Session.{Session}
 use Rattle.room.specs.Memory.{Memory, memory, Rooms, roomFits}
 use Rattle.opening.specs.declared.Opened.{Opened}

@@ -13,7 +13,7 @@ use Rattle.image.specs.declared.Reading.the-variants as read
 use Rattle.image.specs.Read.{readOf, filterIn, cellsIn}
 use Rattle.list.specs.Records.{records}
 use Rattle.marks.specs.Marks.{wordsFor, putMark}
-use Rattle.peeling.specs.Table.{tab, pureAt}
+use Rattle.table.specs.Table.{tab, pureAt}
 use Rattle.room.specs.Memory.{Memory, memory, roomFits}
 use Rattle.opening.specs.declared.Opened.{Opened}
 use Rattle.opening.specs.declared.Opened.the-variants.{Open, Length, Check, Form, Mixed, Stale, BadRoom}

@@ -1,5 +1,5 @@
 // Opening a session: an image is read, its filter and cells are copied into lent room, the list is cleared, and marks and numbers are set right.
-// It rests on image for reading, on cell for the fields of a cell, on peeling for pure cells, and on room for the lengths.
+// It rests on image for reading, on cell for the fields of a cell, on table for pure cells, and on room for the lengths.
 ghost use mathlib.Core.Path.{_≡_};
 ghost use Prim.Native.Nat.{_+_, _*_, _≤_};
 ghost use lib.ListN.{length, replicate};
@@ -7,7 +7,7 @@ ghost use Rattle.layout.specs.Sizes.{Lays, Ranged, tableCells, blocks, filterBy
 ghost use Rattle.image.specs.Read.{filterIn};
 ghost use Rattle.list.specs.Records.{records};
 ghost use Rattle.marks.specs.Marks.{wordsFor};
-ghost use Rattle.peeling.specs.Table.{tab};
+ghost use Rattle.table.specs.Table.{tab};
 ghost use Rattle.room.specs.Memory.{memory, Rooms};
 ghost use Rattle.opening.specs.Blocks.{fields, copiedCell, copiedBlock};
 ghost use Rattle.opening.specs.Open.{xorsIn, flowsIn, packetsIn, marksOf, openedMemory, refused, opening, openOf};
@@ -168,7 +168,7 @@ fn mark_pure(l: Layout, z: Sizes, salt: u32, xors: &[u8], flows: &[u16], marks: 
     let s = layout::part_cells(l, z);
     let mut c = 0;
     while c < flows.len() {
-        let pure = peeling::is_pure(l, z, salt, c / s, xors, flows, c);
+        let pure = table::is_pure(l, z, salt, c / s, xors, flows, c);
         marks::put_mark(marks, c, pure);
         c += 1;
     }

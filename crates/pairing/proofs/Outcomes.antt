@@ -2,7 +2,7 @@
 use mathlib.Core.Path.{_≡_, refl, sym, ap, _∙_}
 use denote.Ref.{now}
 use Rattle.laws.proofs.Outcomes.{both}
-use Rattle.peeling.specs.Table.{tab}
+use Rattle.table.specs.Table.{tab}
 use Rattle.exchange.specs.declared.Exchanged.{Exchanged}
 use Rattle.records.specs.Outcomes.{Determines}
 use Rattle.calls.specs.Calls.{lent, Called, called}

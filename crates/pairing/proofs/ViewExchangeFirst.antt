@@ -19,7 +19,7 @@ use denote.Triple.Spec.{tripleOf}
 use denote.Triple.Statement.{Contract, Triple, FmF}
 use mir.Val.{Val, vint}
 use Rattle.list.specs.Records.{records}
-use Rattle.peeling.specs.Table.{tab}
+use Rattle.table.specs.Table.{tab}
 use Rattle.room.specs.Memory.{memory}
 use Rattle.calls.specs.Calls.{Arrays, ran, overFirst}
 use Rattle.pairing.specs.Pairing.{exchanging}

@@ -3,7 +3,7 @@
 ghost use mathlib.Core.Path.{_≡_};
 ghost use Prim.Native.Nat.{_≤_};
 ghost use Rattle.list.specs.Records.{records};
-ghost use Rattle.peeling.specs.Table.{tab};
+ghost use Rattle.table.specs.Table.{tab};
 ghost use Rattle.room.specs.Memory.{memory};
 ghost use Rattle.calls.specs.Calls.{Arrays, lent, ran, overFirst, called};
 ghost use Rattle.pairing.specs.Pairing.{exchanging, exchangeRecords};

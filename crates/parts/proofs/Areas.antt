@@ -11,7 +11,7 @@ use Rattle.layout.specs.declared.Layout.{Layout}
 use Rattle.layout.specs.declared.Sizes.{Sizes}
 use Rattle.list.specs.Records.{Records}
 use Rattle.layout.proofs.Ranges.{cell-high}
-use Rattle.peeling.specs.Table.{Tab, Fit}
+use Rattle.table.specs.Table.{Tab, Fit}
 use Rattle.peeling.specs.Peel.{Fits}
 use Rattle.peeling.specs.declared.Stop.{Stop}
 use Rattle.settling.specs.Settle.{Settled, settled, settleOf}

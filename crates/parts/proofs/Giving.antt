@@ -17,7 +17,7 @@ use Rattle.layout.specs.declared.Layout.{Layout}
 use Rattle.layout.specs.declared.Sizes.{Sizes}
 use Rattle.layout.specs.Sizes.{tableCells}
 use Rattle.list.specs.Records.{Records, records, keyAt, isHanded}
-use Rattle.peeling.specs.Table.{Tab}
+use Rattle.table.specs.Table.{Tab}
 use Rattle.test8.specs.Test8.{handedIn}
 use Rattle.handing.specs.declared.Handed.{Handed}
 use Rattle.handing.specs.Hand.{Handing, handing, handOf, takenBy, Hands}

@@ -10,7 +10,7 @@ use Rattle.layout.specs.declared.Sizes.{Sizes}
 use Rattle.layout.specs.Sizes.{tableCells, filterBytes}
 use Rattle.list.specs.Records.{Records, records}
 use Rattle.marks.specs.Marks.{wordsFor}
-use Rattle.peeling.specs.Table.{Tab, tab}
+use Rattle.table.specs.Table.{Tab, tab}
 use Rattle.peeling.specs.Peel.{Fits}
 use Rattle.peeling.specs.declared.Stop.{Stop}
 use Rattle.handing.specs.Hand.{Handing, handing, handOf}

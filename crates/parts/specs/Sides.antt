@@ -10,7 +10,7 @@ use Rattle.layout.specs.declared.Layout.{Layout}
 use Rattle.layout.specs.declared.Sizes.{Sizes}
 use Rattle.layout.specs.Sizes.{tableCells}
 use Rattle.list.specs.Records.{Records, keyAt}
-use Rattle.peeling.specs.Table.{Tab}
+use Rattle.table.specs.Table.{Tab}
 use Rattle.peeling.specs.Peel.{Fits, listedAt}
 use Rattle.peeling.specs.declared.Stop.{Stop}
 use Rattle.test8.specs.Test8.{handedIn}

@@ -7,7 +7,7 @@ ghost use Prim.Native.Nat.{_+_, _-_, _*_, _≤_};
 ghost use lib.ListN.{length, take, drop};
 ghost use Rattle.layout.specs.Sizes.{Lays, Ranged, tableCells};
 ghost use Rattle.list.specs.Records.{records, Room};
-ghost use Rattle.peeling.specs.Table.{tab, Fit};
+ghost use Rattle.table.specs.Table.{tab, Fit};
 ghost use Rattle.test8.specs.Test8.{overListed, isSession, handedIn};
 ghost use Rattle.index.specs.Index.{Empty};
 ghost use Rattle.test8.specs.Given.{seenUpto};

@@ -17,16 +17,16 @@ use Rattle.layout.specs.Sizes.{tableCells}
 use Rattle.layout.proofs.Ranges.{table-high}
 use Rattle.hash.specs.Places.{cellOf, Within}
 use Rattle.list.specs.Records.{Records, Room, keyAt, isListed, appended}
-use Rattle.list.proofs.Laws.{length-key, key-inside, keys-inside, key-appended, room-appended}
+use Rattle.list.proofs.Laws.{length-key, key-inside, key-appended, room-appended}
 use Rattle.index.specs.Index.{linked}
 use Rattle.marks.specs.Marks.{firstMark}
-use Rattle.peeling.specs.Table.{Tab, Fit, InBytes, anyEmpty, hasEmpty, takenOut}
-use Rattle.peeling.specs.Seen.{bucket, bucketOf, LeadsTo}
+use Rattle.table.specs.Table.{Tab, Fit, InBytes, anyEmpty, hasEmpty, takenOut}
+use Rattle.found.specs.Seen.{bucket, bucketOf, LeadsTo}
 use Rattle.peeling.specs.Peel.{Fits, peeled, peelDamaged, peelTaken, peelAt, peelOf}
 use Rattle.peeling.specs.declared.Step.{Step}
 use Rattle.peeling.specs.declared.Step.the-variants.{Quiet, Full, Damaged, Next}
-use Rattle.peeling.proofs.Table.{empty-is, fit-out}
-use Rattle.peeling.proofs.Seen.{leads, covers-more}
+use Rattle.table.proofs.Table.{empty-is, fit-out}
+use Rattle.found.proofs.Seen.{leads, covers-more}
 use Rattle.laws.proofs.Rows.{row-within}
 
 -- ---- where keys lie

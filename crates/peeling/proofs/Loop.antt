@@ -10,7 +10,7 @@ use Rattle.layout.specs.declared.Layout.{Layout}
 use Rattle.layout.specs.declared.Sizes.{Sizes}
 use Rattle.layout.specs.Sizes.{tableCells}
 use Rattle.list.specs.Records.{Records}
-use Rattle.peeling.specs.Table.{Tab}
+use Rattle.table.specs.Table.{Tab}
 use Rattle.peeling.specs.Peel.{Fits, Peeled, peeled, peelOf, Ended, ended, stopAt, afterPeel, peelsUpto, peelsOf, listedAt}
 use Rattle.peeling.specs.declared.Step.{Step}
 use Rattle.peeling.specs.declared.Step.the-variants.{Quiet, Full, Damaged, Next}

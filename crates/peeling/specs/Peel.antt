@@ -1,5 +1,5 @@
 -- One peel for any marks, and peeling while a cell is marked: 01 'A session', Settle and Damage.
-use mathlib.Core.Bool.{Bool, true, cond, _||_}
+use mathlib.Core.Bool.{Bool, cond, _||_}
 use mathlib.Core.List.{List}
 use Prim.Native.Nat.{ℕ, zero, suc, _+_, _-_, _*_, _≤_}
 use lib.Dec.{ltb, leb}
@@ -9,8 +9,8 @@ use Rattle.layout.specs.Sizes.{tableCells}
 use Rattle.list.specs.Records.{Records, Room, keyAt, isListed, appended}
 use Rattle.index.specs.Index.{linked}
 use Rattle.marks.specs.Marks.{firstMark}
-use Rattle.peeling.specs.Table.{Tab, Fit, hasEmpty, takenOut}
-use Rattle.peeling.specs.Seen.{bucketOf, Covers}
+use Rattle.table.specs.Table.{Tab, Fit, hasEmpty, takenOut}
+use Rattle.found.specs.Seen.{bucketOf, Covers}
 use Rattle.peeling.specs.declared.Step.{Step}
 use Rattle.peeling.specs.declared.Step.the-variants.{Quiet, Full, Damaged, Next}
 use Rattle.peeling.specs.declared.Stop.{Stop}

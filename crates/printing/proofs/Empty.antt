@@ -30,11 +30,11 @@ use Rattle.image.proofs.Accepts.{accepted}
 use Rattle.image.proofs.Back.{read-back}
 use Rattle.list.specs.Records.{Records}
 use Rattle.marks.specs.Marks.{wordsFor, putMark, firstMark}
-use Rattle.peeling.specs.Table.{Tab}
+use Rattle.table.specs.Table.{Tab}
 use Rattle.peeling.specs.Peel.{peeled, peelOf, ended, afterPeel, peelsUpto, peelsOf}
 use Rattle.peeling.specs.declared.Step.the-variants as step
 use Rattle.peeling.specs.declared.Stop.the-variants as stop
-use Rattle.peeling.proofs.Table.{pure-no}
+use Rattle.table.proofs.Table.{pure-no}
 use Rattle.counting.specs.Count.{countsUpto, countsOf}
 use Rattle.settling.specs.Settle as settling
 use Rattle.settling.specs.Settle.{afterCounts, thenCounts}

@@ -11,7 +11,7 @@ use Rattle.layout.specs.Sizes.{Ranged, ipv4Layout, tableCells, filterBytes}
 use Rattle.layout.proofs.Ranges.{lays-ipv4, table-high}
 use Rattle.image.specs.Read.{readOf}
 use Rattle.list.specs.Records.{records}
-use Rattle.peeling.specs.Table.{tab}
+use Rattle.table.specs.Table.{tab}
 use Rattle.room.specs.Memory.{Memory, memory, Rooms}
 use Rattle.printing.specs.Print.{sizesRead, Largest}
 use Rattle.printing.proofs.Image.{sizes-ranged}

@@ -13,7 +13,7 @@ use Rattle.layout.specs.declared.Sizes.{Sizes}
 use Rattle.layout.specs.Sizes.{Lays, inRange, ipv4Layout, tableCells}
 use Rattle.layout.proofs.Ranges.{table-high, lays-ipv4}
 use Rattle.list.specs.Records.{Records}
-use Rattle.peeling.specs.Table.{Tab}
+use Rattle.table.specs.Table.{Tab}
 use Rattle.peeling.specs.Peel.{Fits, peelsOf, listedAt}
 use Rattle.peeling.specs.declared.Stop.{Stop}
 use Rattle.peeling.specs.declared.Stop.the-variants as stop

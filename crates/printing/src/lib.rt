@@ -9,7 +9,7 @@ ghost use Rattle.layout.specs.Sizes.{ipv4Layout};
 ghost use Rattle.image.specs.Read.{readOf};
 ghost use Rattle.opening.specs.Open.{openNumber};
 ghost use Rattle.list.specs.Records.{records};
-ghost use Rattle.peeling.specs.Table.{tab};
+ghost use Rattle.table.specs.Table.{tab};
 ghost use Rattle.room.specs.Memory.{memory, Rooms};
 ghost use Rattle.session.specs.Calls.{settleNumber};
 ghost use Rattle.lines.specs.Text.{Put};

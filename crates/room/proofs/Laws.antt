@@ -14,7 +14,7 @@ use Rattle.layout.specs.Sizes.{Lays, Ranged, inRange, tableCells, filterBytes}
 use Rattle.layout.proofs.Ranges.{cell-high}
 use Rattle.list.specs.Records.{Records, Room}
 use Rattle.marks.specs.Marks.{wordsFor}
-use Rattle.peeling.specs.Table.{Tab, Fit}
+use Rattle.table.specs.Table.{Tab, Fit}
 use Rattle.test8.specs.Test8.{isSession}
 use Rattle.room.specs.declared.Session.{Session}
 use Rattle.room.specs.Memory.{Memory, Rooms, tableFits, listFits, roomFits}

@@ -11,7 +11,7 @@ use Rattle.layout.specs.declared.Sizes.{Sizes}
 use Rattle.layout.specs.Sizes.{tableCells, filterBytes}
 use Rattle.list.specs.Records.{Records, records, Room}
 use Rattle.marks.specs.Marks.{wordsFor}
-use Rattle.peeling.specs.Table.{Tab, Fit}
+use Rattle.table.specs.Table.{Tab, Fit}
 
 -- the received filter; FlowXOR and FlowCount of the cells with marks and per-cell numbers; PacketCount; the found flows
 pub record Memory : Type 0 where

@@ -1,10 +1,10 @@
 // The room that is lent for a session, the numbers that go with it, and the test that its lengths are right.
-// It rests on layout, on peeling and list for how cells and found flows lie in slices, and on test8 for the rest of the test.
+// It rests on layout, on table and list for how cells and found flows lie in slices, and on test8 for the rest of the test.
 ghost use mathlib.Core.Path.{_≡_};
 ghost use lib.ListN.{length};
 ghost use Rattle.layout.specs.Sizes.{Lays, Ranged};
 ghost use Rattle.list.specs.Records.{records};
-ghost use Rattle.peeling.specs.Table.{tab};
+ghost use Rattle.table.specs.Table.{tab};
 ghost use Rattle.room.specs.Memory.{memory, tableFits, listFits, roomFits};
 use layout::Layout;
 use layout::Sizes;

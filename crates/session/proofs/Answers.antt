@@ -14,9 +14,9 @@ use Rattle.layout.specs.declared.Sizes.{Sizes}
 use Rattle.layout.specs.Sizes.{Lays, inRange, tableCells}
 use Rattle.layout.proofs.Ranges.{ranged, table-high}
 use Rattle.list.specs.Records.{Records, isHanded}
-use Rattle.peeling.specs.Table.{Tab}
+use Rattle.table.specs.Table.{Tab}
 use Rattle.index.proofs.Index.{empty-zeros}
-use Rattle.peeling.specs.Seen.{Covers}
+use Rattle.found.specs.Seen.{Covers}
 use Rattle.peeling.specs.Peel.{Fits}
 use Rattle.peeling.specs.declared.Stop.{Stop}
 use Rattle.test8.specs.Given.{flagSet, seenUpto}

@@ -6,7 +6,7 @@ ghost use lib.ListN.{length};
 ghost use Rattle.layout.specs.Sizes.{Lays, ipv4Layout};
 ghost use Rattle.list.specs.Records.{records};
 ghost use Rattle.packet.specs.Key.{keyBytes};
-ghost use Rattle.peeling.specs.Table.{tab};
+ghost use Rattle.table.specs.Table.{tab};
 ghost use Rattle.room.specs.Memory.{memory};
 ghost use Rattle.opening.specs.Open.{opening, openOf};
 ghost use Rattle.index.specs.Index.{Empty};

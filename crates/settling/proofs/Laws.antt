@@ -12,8 +12,8 @@ use Rattle.layout.specs.declared.Sizes.{Sizes}
 use Rattle.layout.specs.Sizes.{tableCells}
 use Rattle.layout.proofs.Ranges.{table-high}
 use Rattle.list.specs.Records.{Records}
-use Rattle.peeling.specs.Seen.{Covers}
-use Rattle.peeling.specs.Table.{Tab, tab}
+use Rattle.found.specs.Seen.{Covers}
+use Rattle.table.specs.Table.{Tab, tab}
 use Rattle.peeling.specs.Peel.{Fits, Ended, ended, peelsOf, listedAt}
 use Rattle.peeling.specs.declared.Stop.{Stop}
 use Rattle.peeling.specs.declared.Stop.the-variants.{Done, Full, Damaged}

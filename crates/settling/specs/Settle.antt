@@ -4,7 +4,7 @@ use Prim.Native.Nat.{ℕ}
 use Rattle.layout.specs.declared.Layout.{Layout}
 use Rattle.layout.specs.declared.Sizes.{Sizes}
 use Rattle.list.specs.Records.{Records}
-use Rattle.peeling.specs.Table.{Tab, tab}
+use Rattle.table.specs.Table.{Tab, tab}
 use Rattle.peeling.specs.Peel.{peelsOf}
 use Rattle.peeling.specs.declared.Stop.{Stop}
 use Rattle.peeling.specs.declared.Stop.the-variants.{Done, Full, Damaged}

@@ -3,7 +3,7 @@ ghost use mathlib.Core.Path.{_≡_};
 ghost use lib.ListN.{length};
 ghost use Rattle.layout.specs.Sizes.{tableCells};
 ghost use Rattle.list.specs.Records.{records};
-ghost use Rattle.peeling.specs.Table.{tab};
+ghost use Rattle.table.specs.Table.{tab};
 ghost use Rattle.peeling.specs.Peel.{Fits};
 ghost use Rattle.settling.specs.Settle.{settled, stopAfter, settleOf};
 use layout::Layout;

@@ -15,7 +15,7 @@ use Rattle.layout.specs.declared.Layout.{Layout}
 use Rattle.layout.specs.declared.Sizes.{Sizes}
 use Rattle.layout.specs.Sizes.{tableCells}
 use Rattle.list.specs.Records.{Records, isKnown, isHanded}
-use Rattle.peeling.specs.Table.{Tab}
+use Rattle.table.specs.Table.{Tab}
 use Rattle.test8.specs.Given.{flagSet, seenUpto}
 use Rattle.test8.specs.Test8.{overListed, keysRepeat, zeroCount, handedIn, peeledIn, openIn, numbersIn, marksRight, restClear}
 use Rattle.test8.specs.Test8.{unknownsGiven, positionsGiven, notesRight, isSession}

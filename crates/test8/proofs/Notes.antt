@@ -22,9 +22,9 @@ use Rattle.hash.proofs.Apart.{cell-within, cells-differ, places-within}
 use Rattle.index.specs.Index.{Empty, linked}
 use Rattle.index.proofs.Index.{length-linked, indexes-none, indexes-more}
 use Rattle.list.specs.Records.{Records, records, keyAt, isKnown, isListed}
-use Rattle.peeling.specs.Table.{InPart}
-use Rattle.peeling.specs.Seen.{bucket, bucketOf, Covers, LeadsTo}
-use Rattle.peeling.proofs.Seen.{leads}
+use Rattle.table.specs.Table.{InPart}
+use Rattle.found.specs.Seen.{bucket, bucketOf, Covers, LeadsTo}
+use Rattle.found.proofs.Seen.{leads}
 use Rattle.test8.specs.Given.{flagSet, renewed, oneMore, mixedIn, noted, seenUpto}
 use Rattle.test8.specs.Test8.{keysRepeat, unknownIn, unknownsGiven, positionsGiven}
 use Rattle.laws.proofs.Lowest.{count-wraps}

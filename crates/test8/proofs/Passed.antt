@@ -16,7 +16,7 @@ use Rattle.layout.specs.declared.Layout.{Layout}
 use Rattle.layout.specs.declared.Sizes.{Sizes}
 use Rattle.layout.specs.Sizes.{tableCells}
 use Rattle.list.specs.Records.{Records}
-use Rattle.peeling.specs.Table.{Tab, tab}
+use Rattle.table.specs.Table.{Tab, tab}
 use Rattle.test8.specs.Test8.{overListed, keysRepeat, zeroCount, handedIn, peeledIn, openIn, numbersIn, marksRight, restClear}
 use Rattle.test8.specs.Test8.{unknownsGiven, positionsGiven, notesRight, isSession}
 use Rattle.test8.proofs.Answers.{Passed}

@@ -12,7 +12,7 @@ use Rattle.layout.specs.declared.Sizes.{Sizes}
 use Rattle.hash.specs.Places.{cellOf}
 use Rattle.list.specs.Records.{keyAt}
 use Rattle.index.specs.Index.{linked}
-use Rattle.peeling.specs.Seen.{bucketOf}
+use Rattle.found.specs.Seen.{bucketOf}
 
 -- a bit of a record's flags: bit 0 known, bit 1 handed
 abbrev pub flagSet : ℕ → ℕ → Bool

@@ -12,7 +12,7 @@ use Rattle.layout.specs.Sizes.{tableCells}
 use Rattle.hash.specs.Places.{hasCell}
 use Rattle.list.specs.Records.{Records, keyAt, isKnown, isHanded, isListed}
 use Rattle.marks.specs.Marks.{wordsFor, marked}
-use Rattle.peeling.specs.Table.{Tab, pureAt}
+use Rattle.table.specs.Table.{Tab, pureAt}
 
 -- 01 'A session': "over 2 N flows are listed"
 unfoldable pub overListed : Layout → Sizes → ℕ → Bool

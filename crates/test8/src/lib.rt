@@ -1,5 +1,5 @@
 // The test of 8: whether lent memory is a session, all of it worked out anew from cells and list, in one pass over each.
-// It rests on list and marks, on hash for a flow's cells, and on peeling and index for pure cells and for finding listed flows.
+// It rests on list and marks, on hash for a flow's cells, on table for pure cells, and on found and index for listed flows.
 ghost use mathlib.Core.Path.{_≡_};
 ghost use mathlib.Core.Bool.{cond, _&&_, _||_};
 ghost use Prim.Native.Nat.{_+_, _-_, _*_, _<_, _≤_};
@@ -10,7 +10,7 @@ ghost use Rattle.layout.specs.Sizes.{Lays, Ranged, tableCells};
 ghost use Rattle.list.specs.Records.{records, Room};
 ghost use Rattle.index.specs.Index.{Empty};
 ghost use Rattle.marks.specs.Marks.{wordsFor};
-ghost use Rattle.peeling.specs.Table.{tab, Fit};
+ghost use Rattle.table.specs.Table.{tab, Fit};
 ghost use Rattle.hash.specs.Places.{Within};
 ghost use Rattle.test8.specs.Given.{flagSet, renewed, oneMore, mixedIn, noted, seenUpto};
 ghost use Rattle.test8.specs.Test8.{
@@ -190,8 +190,8 @@ fn note_list(
         let a = i * l.key;
         let e = a + l.key;
         let at = hash::cells_of(l, z, salt, &keys[a..e]);
-        repeat = either(repeat, peeling::is_found(l, i, at, &keys[a..e], keys, seen));
-        index::link(seen, peeling::bucket(at), i);
+        repeat = either(repeat, found::is_found(l, i, at, &keys[a..e], keys, seen));
+        index::link(seen, found::bucket(at), i);
         note_flow(at, z.k, flags[i], i as u16, unknowns, positions);
         i += 1;
     }
@@ -207,7 +207,7 @@ fn marks_right(l: Layout, z: Sizes, salt: u32, xors: &[u8], flows: &[u16], marks
     let s = layout::part_cells(l, z);
     let mut c = 0;
     while c < flows.len() {
-        let pure = peeling::is_pure(l, z, salt, c / s, xors, flows, c);
+        let pure = table::is_pure(l, z, salt, c / s, xors, flows, c);
         if !agree(marks::is_marked(marks, c), pure) {
             return false;
         }

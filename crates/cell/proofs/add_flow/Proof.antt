@@ -1,7 +1,7 @@
 -- `cell::add_flow` meets its contract.
 use mathlib.Core.Path.{ap, _∙_}
 use Rattle.cell.specs.Cell.{addFlow}
-use Rattle.cell.proofs.Steps.{flow-counted}
+use Rattle.cell.proofs.Steps.{flow-counted, key-mixed}
 use borrow.Author.Needs.{needs}
 use Rattle.cell.proofs.add_flow.Statement.{statement}
 use Rattle.cell.proofs.add_flow.Tie as tie
@@ -15,8 +15,11 @@ add-at c = search needs
 add-at-2 : tie.Need-add-at-2
 add-at-2 c = search needs
 
-mix-key-requires : tie.Need-mix-key-requires
-mix-key-requires c κs = search needs
+mul-xor-at : tie.Need-mul-xor-at
+mul-xor-at c = search needs
+
+xor-at-requires : tie.Need-xor-at-requires
+xor-at-requires c κs = search needs
 
 short-at-requires : tie.Need-short-at-requires
 short-at-requires c κs = search needs
@@ -32,10 +35,11 @@ same-length c = search needs
 
 returns : tie.Need-returns
 returns c =
-    let s = (c .before .before .before .before .before .before .before .before .before .before .before .before .before .before .before) in
-    c .before .before .put-short .ensures ∙ flow-counted (s .args .l) _ (s .args .c) (c .before .before .before .before .before .short-at .ensures)
-    (c .before .before .before .wrapping-add-u16 .ensures) ∙ ap (λ t. addFlow (s .args .l) t (s .args .c))
-    (c .before .before .before .before .before .before .before .before .before .mix-key .ensures)
+    let s = (c .before .before .before .before .before .before .before .before .before .before .before .before .before .before .before .before) in
+    let a = s .args in
+    c .before .before .put-short .ensures ∙ flow-counted (a .l) _ (a .c) (c .before .before .before .before .before .short-at .ensures)
+    (c .before .before .before .wrapping-add-u16 .ensures) ∙ ap (λ t. addFlow (a .l) t (a .c))
+    (c .before .before .before .before .before .before .before .before .before .xor-at .ensures ∙ key-mixed (a .l) (a .cells .now) (a .c) (a .key .now) (s .pre .2))
 
 pub add-flow-spec : {M : Type 1} → statement M
 add-flow-spec =
@@ -44,7 +48,8 @@ add-flow-spec =
     mul-at
     add-at
     add-at-2
-    mix-key-requires
+    mul-xor-at
+    xor-at-requires
     short-at-requires
     wrapping-add-u16-requires
     put-short-requires

@@ -1,5 +1,5 @@
 use Rattle.list.specs.Records.{records}
-use Rattle.peeling.specs.Table.{tab}
+use Rattle.table.specs.Table.{tab}
 use Rattle.room.specs.Memory.{memory}
 use Rattle.elderflute.proofs.Answers.{exchange-call}
 use borrow.Author.Needs.{needs}

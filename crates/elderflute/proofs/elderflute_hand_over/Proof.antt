@@ -1,6 +1,6 @@
 -- `elderflute::elderflute_hand_over` meets its contract.
 use Rattle.list.specs.Records.{records}
-use Rattle.peeling.specs.Table.{tab}
+use Rattle.table.specs.Table.{tab}
 use Rattle.room.specs.Memory.{Memory, memory}
 use mathlib.Core.Path.{sym, ap, subst, _∙_}
 use Rattle.layout.specs.declared.Layout.{Layout}

@@ -1,6 +1,6 @@
 -- `elderflute::elderflute_open` meets its contract.
 use Rattle.list.specs.Records.{records}
-use Rattle.peeling.specs.Table.{tab}
+use Rattle.table.specs.Table.{tab}
 use Rattle.room.specs.Memory.{Memory, memory}
 use Rattle.elderflute.proofs.Answers.{open-sized, open-call}
 use borrow.Author.Needs.{needs}

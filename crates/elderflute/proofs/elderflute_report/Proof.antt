@@ -1,6 +1,6 @@
 -- `elderflute::elderflute_report` meets its contract.
 use Rattle.list.specs.Records.{records}
-use Rattle.peeling.specs.Table.{tab}
+use Rattle.table.specs.Table.{tab}
 use Rattle.room.specs.Memory.{Memory, memory}
 use Rattle.elderflute.proofs.Answers.{report-call}
 use borrow.Author.Needs.{needs}

@@ -1,6 +1,6 @@
 -- `elderflute::elderflute_settle` meets its contract.
 use Rattle.list.specs.Records.{records}
-use Rattle.peeling.specs.Table.{tab}
+use Rattle.table.specs.Table.{tab}
 use Rattle.room.specs.Memory.{Memory, memory}
 use Rattle.elderflute.proofs.Answers.{settle-call}
 use borrow.Author.Needs.{needs}

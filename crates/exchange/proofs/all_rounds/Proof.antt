@@ -1,7 +1,7 @@
 use mathlib.Core.Path.{sym, _∙_}
 use native.Mathlib.Omega.{arith}
 use Rattle.list.specs.Records.{records}
-use Rattle.peeling.specs.Table.{tab}
+use Rattle.table.specs.Table.{tab}
 use Rattle.parts.specs.Areas.{between, areas}
 use Rattle.exchange.specs.Exchange.{rounds, switchOf, pairIn}
 use Rattle.exchange.proofs.Rounds.{Going, going-start, going-few, going-done, going-over, going-on}

@@ -1,7 +1,7 @@
 use mathlib.Core.Path.{sym, _∙_}
 use Rattle.laws.proofs.Bools.{refuted}
 use Rattle.list.specs.Records.{records}
-use Rattle.peeling.specs.Table.{tab}
+use Rattle.table.specs.Table.{tab}
 use Rattle.room.specs.Memory.{memory}
 use Rattle.exchange.proofs.Rooms.{areas-full}
 use Rattle.exchange.proofs.Call.{last-fits}

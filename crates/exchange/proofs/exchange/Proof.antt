@@ -2,7 +2,7 @@ use Rattle.layout.specs.Sizes.{Lays}
 use Rattle.layout.proofs.Ranges.{lays-ipv4}
 use mathlib.Core.Path.{sym, ap, subst, _∙_}
 use Rattle.list.specs.Records.{records}
-use Rattle.peeling.specs.Table.{tab}
+use Rattle.table.specs.Table.{tab}
 use Rattle.room.specs.Memory.{memory}
 use Rattle.exchange.specs.Exchange.{exchangeOf}
 use borrow.Author.Needs.{needs}

@@ -1,7 +1,7 @@
 use mathlib.Core.Path.{refl, sym, ap, subst, _∙_}
 use Rattle.layout.proofs.Ranges.{ranged}
 use Rattle.list.specs.Records.{records}
-use Rattle.peeling.specs.Table.{tab}
+use Rattle.table.specs.Table.{tab}
 use Rattle.room.specs.Memory.{memory}
 use Rattle.parts.specs.Areas.{Near, placeAfter}
 use Rattle.exchange.proofs.Tests.{passed}

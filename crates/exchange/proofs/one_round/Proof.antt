@@ -4,7 +4,7 @@ use mathlib.Core.Path.{refl, sym, ap, ap₂, subst, _∙_}
 use Prim.Native.Nat.{_+_}
 use native.Mathlib.Omega.{arith}
 use Rattle.list.specs.Records.{records}
-use Rattle.peeling.specs.Table.{tab}
+use Rattle.table.specs.Table.{tab}
 use Rattle.layout.proofs.Ranges.{table-high}
 use Rattle.parts.specs.Sides.{handList, given}
 use Rattle.parts.specs.Areas.{origin, between, givePart, Gives, areas, partAt}

@@ -2,7 +2,7 @@ use mathlib.Core.Path.{sym, ap, subst, _∙_}
 use Prim.Native.Nat.{_≤_}
 use lib.ListN.{length}
 use Rattle.list.specs.Records.{records}
-use Rattle.peeling.specs.Table.{tab}
+use Rattle.table.specs.Table.{tab}
 use Rattle.parts.specs.Sides.{Stands}
 use Rattle.parts.specs.Areas.{origin, Inside, areas, partAt, settlePart}
 use Rattle.exchange.specs.Exchange.{switchOf}

@@ -3,7 +3,7 @@ use borrow.Author.Tests.{eq-eqb, ne-eqb}
 use Rattle.laws.proofs.Bools.{held, failed}
 use Rattle.layout.proofs.Ranges.{ranged}
 use Rattle.list.specs.Records.{records}
-use Rattle.peeling.specs.Table.{tab}
+use Rattle.table.specs.Table.{tab}
 use Rattle.room.specs.Memory.{memory}
 use Rattle.parts.specs.Areas.{Near, placeAfter}
 use Rattle.exchange.specs.declared.Tested.the-variants as tested

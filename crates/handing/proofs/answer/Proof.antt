@@ -3,7 +3,7 @@ use lib.ListN.{length}
 use Rattle.hash.proofs.Apart.{places-within}
 use Rattle.layout.proofs.Ranges.{table-high}
 use Rattle.filter.proofs.Held.{bits-inside}
-use Rattle.peeling.proofs.Seen.{leads}
+use Rattle.found.proofs.Seen.{leads}
 use Rattle.handing.proofs.Answers.{answer-new, answer-listed, answer-empty, answer-many, answer-taken}
 use native.Mathlib.Omega.{arith}
 use borrow.Author.Needs.{needs}

@@ -6,7 +6,7 @@ use Rattle.layout.specs.Sizes.{tableCells}
 use Rattle.layout.proofs.Ranges.{table-high}
 use Rattle.list.specs.Records.{Records, records}
 use Rattle.list.proofs.Laws.{key-inside, keys-inside}
-use Rattle.peeling.specs.Table.{Tab, tab}
+use Rattle.table.specs.Table.{Tab, tab}
 use Rattle.peeling.proofs.Answers.{first-two, listed-few}
 use Rattle.handing.specs.Hand.{answerOf}
 use Rattle.handing.specs.declared.Handed.{Handed}

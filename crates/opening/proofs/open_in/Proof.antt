@@ -4,7 +4,7 @@ use borrow.Author.Needs.{needs}
 use Rattle.laws.proofs.Bools.{held, failed}
 use Rattle.image.proofs.Accepts.{accepted}
 use Rattle.list.specs.Records.{records}
-use Rattle.peeling.specs.Table.{tab}
+use Rattle.table.specs.Table.{tab}
 use Rattle.room.specs.Memory.{memory}
 use Rattle.room.proofs.Laws.{rooms-told}
 use Rattle.opening.proofs.Returns.{open-refused, open-no-room, open-filled}

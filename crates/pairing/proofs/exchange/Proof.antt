@@ -21,7 +21,7 @@ use denote.Triple.Spec.{tripleOf, Meets}
 use denote.Triple.Statement.{Triple}
 use mir.Val.{Val, vunit, vint, vptr}
 use Rattle.list.specs.Records.{records}
-use Rattle.peeling.specs.Table.{tab}
+use Rattle.table.specs.Table.{tab}
 use Rattle.room.specs.Memory.{memory}
 use Rattle.calls.specs.Calls.{lent}
 use Rattle.pairing.specs.Pairing.{exchanging}

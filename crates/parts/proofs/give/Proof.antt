@@ -1,7 +1,7 @@
 use mathlib.Core.Path.{_∙_}
 use native.Mathlib.Omega.{arith}
 use Rattle.list.specs.Records.{records}
-use Rattle.peeling.specs.Table.{tab}
+use Rattle.table.specs.Table.{tab}
 use Rattle.layout.proofs.Ranges.{table-high}
 use Rattle.parts.proofs.Giving.{give-some, give-none, handed-part, listed-in}
 use borrow.Author.Needs.{needs}

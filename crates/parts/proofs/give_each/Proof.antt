@@ -2,7 +2,7 @@ use mathlib.Core.Path.{refl, _∙_}
 use Prim.Native.Nat.{_-_}
 use native.Mathlib.Omega.{arith}
 use Rattle.list.specs.Records.{records}
-use Rattle.peeling.specs.Table.{tab}
+use Rattle.table.specs.Table.{tab}
 use Rattle.layout.proofs.Ranges.{table-high}
 use Rattle.parts.proofs.Giving.{Giving, giving-start, giving-listed, giving-handed, giving-twelves, giving-alike, giving-inside, giving-in, giving-few, giving-hands, giving-on, giving-done}
 use Rattle.parts.proofs.give_each.Statement.{statement}

@@ -6,7 +6,7 @@ use native.Mathlib.Omega.{arith}
 use lib.ListN.{take, drop, length, replicate, length-append}
 use lib.Seq.{length-take-le}
 use Rattle.handing.specs.Hand.{Hands, handing}
-use Rattle.peeling.specs.Table.{tab}
+use Rattle.table.specs.Table.{tab}
 use Rattle.list.specs.Records.{records}
 use Rattle.parts.specs.Areas.{tableAt, listAt, between, handPart}
 use Rattle.parts.specs.Sides.{switch}

@@ -1,6 +1,6 @@
 use native.Mathlib.Omega.{arith}
 use Rattle.parts.specs.Areas.{tableAt, listAt, withTable, withList}
-use Rattle.peeling.specs.Table.{tab}
+use Rattle.table.specs.Table.{tab}
 use Rattle.list.specs.Records.{records}
 use Rattle.parts.proofs.Areas.{length-laid, part-handed}
 use borrow.Author.Needs.{needs}

@@ -1,5 +1,5 @@
 use Rattle.parts.specs.Areas.{tableAt, listAt, withTable, withList, areas}
-use Rattle.peeling.specs.Table.{tab}
+use Rattle.table.specs.Table.{tab}
 use Rattle.list.specs.Records.{records}
 use Rattle.parts.proofs.Areas.{length-laid, part-settled}
 use native.Mathlib.Omega.{arith}

@@ -1,7 +1,7 @@
 use mathlib.Core.Path.{sym, ap, _∙_}
 use mathlib.Core.Bool.{_||_}
 use Rattle.laws.proofs.Bools.{or-l}
-use Rattle.peeling.specs.Table.{anyEmpty}
+use Rattle.table.specs.Table.{anyEmpty}
 use borrow.Author.Needs.{needs}
 use Rattle.peeling.proofs.is_damaged.Statement.{statement}
 use Rattle.peeling.proofs.is_damaged.Tie as tie

@@ -9,7 +9,7 @@ use Rattle.layout.proofs.Ranges.{table-high}
 use Rattle.hash.specs.Places.{cellOf}
 use Rattle.list.specs.Records.{Records, records, keyAt}
 use Rattle.list.proofs.Laws.{key-part, length-key, key-inside, keys-inside, key-small}
-use Rattle.peeling.specs.Table.{Tab, tab, InBytes}
+use Rattle.table.specs.Table.{Tab, tab, InBytes}
 use Rattle.peeling.proofs.Answers.{xor-inside, key-back, back-inside, first-two, all-places, listed-few, leads-to}
 use Rattle.peeling.proofs.Answers.{peel-quiet, peel-full, peel-damaged, peel-taken}
 use borrow.Author.Needs.{needs}

@@ -4,7 +4,7 @@ use native.Mathlib.Omega.{arith}
 use borrow.Author.Needs.{needs}
 use Rattle.layout.specs.Sizes.{tableCells}
 use Rattle.list.specs.Records.{records}
-use Rattle.peeling.specs.Table.{tab}
+use Rattle.table.specs.Table.{tab}
 use Rattle.peeling.specs.Peel.{peelsOf}
 use Rattle.peeling.proofs.Loop.{Going, going-room, going-on, going-stop}
 use Rattle.peeling.proofs.peels.Statement.{statement}

@@ -2,7 +2,7 @@
 use mathlib.Core.Path.{_∙_}
 use native.Mathlib.Omega.{arith}
 use Rattle.list.specs.Records.{records}
-use Rattle.peeling.specs.Table.{tab}
+use Rattle.table.specs.Table.{tab}
 use Rattle.room.specs.Memory.{Memory, memory}
 use Rattle.lines.proofs.Lines.{put-same, refused-le}
 use Rattle.printing.proofs.Image.{image-opened, image-refused}

@@ -8,7 +8,7 @@ use Rattle.layout.specs.Sizes.{Lays, ipv4Layout, tableCells}
 use Rattle.layout.proofs.Ranges.{lays-ipv4}
 use Rattle.image.specs.Read.{readOf}
 use Rattle.list.specs.Records.{records}
-use Rattle.peeling.specs.Table.{tab}
+use Rattle.table.specs.Table.{tab}
 use Rattle.room.specs.Memory.{Memory, memory}
 use Rattle.printing.specs.Print.{sizesRead}
 use Rattle.printing.proofs.Parts.{ranged-read, bytes-high, cells-high, parts-fit}

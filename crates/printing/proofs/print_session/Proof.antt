@@ -1,7 +1,7 @@
 -- `printing::print_session` meets its contract: one law for each answer of settling.
 use native.Mathlib.Omega.{arith}
 use Rattle.list.specs.Records.{records}
-use Rattle.peeling.specs.Table.{tab}
+use Rattle.table.specs.Table.{tab}
 use Rattle.room.specs.Memory.{Memory, memory}
 use Rattle.lines.proofs.Lines.{put-same, refused-le}
 use Rattle.printing.proofs.Settled.{session-listed, session-done, session-refused}

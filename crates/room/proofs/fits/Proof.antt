@@ -1,7 +1,7 @@
 use mathlib.Core.Path.{sym, _∙_}
 use Rattle.laws.proofs.Bools.{refuted, held, failed}
 use Rattle.list.specs.Records.{records}
-use Rattle.peeling.specs.Table.{tab}
+use Rattle.table.specs.Table.{tab}
 use Rattle.room.specs.Memory.{Memory, memory}
 use Rattle.room.proofs.Laws.{rooms-told, rooms-last, table-asked}
 use Rattle.laws.proofs.Bools.{clash}

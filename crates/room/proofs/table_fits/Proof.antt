@@ -5,7 +5,7 @@ use lib.Dec.{eqb}
 use lib.ListN.{length}
 use Rattle.laws.proofs.Bools.{refuted}
 use Rattle.layout.proofs.Ranges.{table-high}
-use Rattle.peeling.specs.Table.{tab}
+use Rattle.table.specs.Table.{tab}
 use Rattle.marks.specs.Marks.{wordsFor}
 use Rattle.room.proofs.Laws.{keys-high, table-told, table-last}
 use borrow.Author.Needs.{needs}

@@ -2,7 +2,7 @@ use Rattle.index.proofs.Index.{empty-zeros}
 -- `session::hand_over_in` meets its contract.
 use native.Mathlib.Omega.{arith}
 use Rattle.list.specs.Records.{records}
-use Rattle.peeling.specs.Table.{tab}
+use Rattle.table.specs.Table.{tab}
 use Rattle.room.specs.Memory.{Memory, memory}
 use Rattle.session.proofs.Answers.{passes, flags-reach, listed-small, passes-hands, hand-not, hand-room, hand-passed}
 use borrow.Author.Needs.{needs}

@@ -3,7 +3,7 @@ use mathlib.Core.Path.{sym, ap, subst, _∙_}
 use Rattle.layout.specs.Sizes.{Lays}
 use Rattle.layout.proofs.Ranges.{lays-ipv4}
 use Rattle.list.specs.Records.{records}
-use Rattle.peeling.specs.Table.{tab}
+use Rattle.table.specs.Table.{tab}
 use Rattle.room.specs.Memory.{Memory, memory}
 use Rattle.session.specs.Calls.{reportOn}
 use borrow.Author.Needs.{needs}

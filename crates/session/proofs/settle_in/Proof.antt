@@ -1,7 +1,7 @@
 use Rattle.index.proofs.Index.{empty-zeros}
 -- `session::settle_in` meets its contract.
 use Rattle.list.specs.Records.{records}
-use Rattle.peeling.specs.Table.{tab}
+use Rattle.table.specs.Table.{tab}
 use Rattle.room.specs.Memory.{Memory, memory}
 use Rattle.session.proofs.Answers.{passes, rooms, passes-fits, settle-not, settle-room, settle-passed}
 use borrow.Author.Needs.{needs}

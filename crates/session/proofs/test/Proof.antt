@@ -4,7 +4,7 @@ use native.Mathlib.Omega.{arith}
 use Rattle.laws.proofs.Bools.{held, failed}
 use Rattle.layout.proofs.Ranges.{ranged}
 use Rattle.list.specs.Records.{records}
-use Rattle.peeling.specs.Table.{tab}
+use Rattle.table.specs.Table.{tab}
 use Rattle.room.specs.Memory.{Memory, memory}
 use Rattle.room.proofs.Laws.{rooms-told, tested-sizes, tested-room, tested-rest, tested-passed}
 use Rattle.session.specs.declared.Tested.the-variants as test

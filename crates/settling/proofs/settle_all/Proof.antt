@@ -1,5 +1,5 @@
 use Rattle.list.specs.Records.{Records, records}
-use Rattle.peeling.specs.Table.{Tab, tab}
+use Rattle.table.specs.Table.{Tab, tab}
 use Rattle.settling.proofs.Laws.{settle-stopped, settle-counted, count-fits}
 use borrow.Author.Needs.{needs}
 use Rattle.settling.proofs.settle_all.Statement.{statement}

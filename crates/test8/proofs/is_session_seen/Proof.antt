@@ -11,7 +11,7 @@ use Rattle.layout.specs.Sizes.{tableCells}
 use Rattle.layout.proofs.Ranges.{table-high}
 use Rattle.list.specs.Records.{records}
 use Rattle.marks.specs.Marks.{wordsFor}
-use Rattle.peeling.specs.Table.{tab}
+use Rattle.table.specs.Table.{tab}
 use Rattle.test8.specs.Given.{oneMore, mixedIn, seenUpto}
 use Rattle.test8.specs.Test8.{restClear, unknownsGiven, positionsGiven}
 use Rattle.test8.proofs.Notes.{length-noted, unknowns-are, positions-are}

@@ -10,7 +10,7 @@ use Rattle.laws.proofs.Upto.{all-no, all-more}
 use Rattle.layout.specs.Sizes.{tableCells}
 use Rattle.layout.proofs.Ranges.{part-low}
 use Rattle.marks.specs.Marks.{marked}
-use Rattle.peeling.specs.Table.{pureAt}
+use Rattle.table.specs.Table.{pureAt}
 use Rattle.test8.specs.Test8.{agrees, marksRight}
 use Rattle.test8.proofs.Notes.{part-of}
 use Rattle.test8.proofs.marks_right.Statement.{statement}

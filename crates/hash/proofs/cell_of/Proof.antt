@@ -2,12 +2,12 @@ use mathlib.Core.Path.{ap, _∙_}
 use native.Mathlib.Nat.{mul-le-mul}
 use native.Mathlib.Omega.{arith}
 use Rattle.layout.proofs.Ranges.{part-high}
 use Rattle.hash.specs.Fnv.{absorb}
 use Rattle.hash.proofs.Chain.{hash-seeded}
-use Rattle.peeling.proofs.Table.{cell-chosen}
+use Rattle.hash.proofs.Apart.{cell-chosen}
 use borrow.Author.Needs.{needs}
-use Rattle.peeling.proofs.cell_of.Statement.{statement}
-use Rattle.peeling.proofs.cell_of.Tie as tie
+use Rattle.hash.proofs.cell_of.Statement.{statement}
+use Rattle.hash.proofs.cell_of.Tie as tie
 
 part-cells-requires : tie.Need-part-cells-requires
 part-cells-requires c κs = search needs

@@ -1,13 +1,11 @@
--- `cell::mix_key` meets its contract.
-use Prim.Native.Nat.{_+_, _*_, _-_}
+-- `fields::xor_at` meets its contract.
+use Prim.Native.Nat.{_+_, _-_}
 use native.Mathlib.Omega.{arith}
-use Rattle.cell.proofs.Steps.{key-mixed}
+use lib.ListN.{length}
+use Rattle.fields.proofs.Runs.{part-xored}
 use borrow.Author.Needs.{needs}
-use Rattle.cell.proofs.mix_key.Statement.{statement}
-use Rattle.cell.proofs.mix_key.Tie as tie
-
-mul-a : tie.Need-mul-a
-mul-a c = search needs
+use Rattle.fields.proofs.xor_at.Statement.{statement}
+use Rattle.fields.proofs.xor_at.Tie as tie
 
 add-e : tie.Need-add-e
 add-e c = search needs
@@ -29,16 +27,15 @@ same-length c = search needs
 
 returns : tie.Need-returns
 returns c =
-    let s = (c .before .before .before .before .before .before .before .before) in
+    let s = (c .before .before .before .before .before .before) in
     let a = s .args in
-    key-mixed (a .l) (s .pre .0) (a .cells .now) (a .c) (s .pre .1) (a .key .now) {k = a .c * a .l .cell + a .l .key - a .c * a .l .cell}
-    (s .pre .2) (omega arith) (c .before .before .xor-in .ensures)
+    part-xored (a .s .now) (a .bytes .now) (a .at) {k = a .at + length (a .bytes .now) - a .at} (s .pre) (omega arith)
+    (c .before .before .xor-in .ensures)
 
-pub mix-key-spec : {M : Type 1} → statement M
-mix-key-spec =
+pub xor-at-spec : {M : Type 1} → statement M
+xor-at-spec =
     tie.close
     (tie.spec
-    mul-a
     add-e
     sub-xor-in
     part-xor-in-start

@@ -4,10 +4,10 @@ use native.Mathlib.Omega.{arith}
 use lib.Dec.{eqb}
 use Rattle.hash.specs.Places.{cellOf}
 use Rattle.list.proofs.Laws.{key-part}
-use Rattle.peeling.proofs.Table.{part-below, pure-no, pure-yes}
+use Rattle.table.proofs.Table.{part-below, pure-no, pure-yes}
 use borrow.Author.Needs.{needs}
-use Rattle.peeling.proofs.is_pure.Statement.{statement}
-use Rattle.peeling.proofs.is_pure.Tie as tie
+use Rattle.table.proofs.is_pure.Statement.{statement}
+use Rattle.table.proofs.is_pure.Tie as tie
 
 mul-if1 : tie.Need-mul-if1
 mul-if1 c = search needs

@@ -1,7 +1,7 @@
 use native.Mathlib.Omega.{arith}
 use borrow.Author.Needs.{needs}
-use Rattle.peeling.proofs.bucket.Statement.{statement}
-use Rattle.peeling.proofs.bucket.Tie as tie
+use Rattle.found.proofs.bucket.Statement.{statement}
+use Rattle.found.proofs.bucket.Tie as tie
 
 element-copy-out-result : tie.Need-element-copy-out-result
 element-copy-out-result c = search needs

@@ -18,7 +18,7 @@ use Rattle.index.specs.Index.{linked, lastIn}
 use Rattle.index.proofs.Index.{last-within, last-has, last-none, indexes-same, indexes-more}
 use Rattle.list.specs.Records.{keyAt, sameBytes, isListed}
 use Rattle.list.proofs.Laws.{same-is, length-key, key-appended, key-kept}
-use Rattle.peeling.specs.Seen.{bucket, bucketOf, Covers, LeadsTo}
+use Rattle.found.specs.Seen.{bucket, bucketOf, Covers, LeadsTo}
 
 -- where the walk down a bucket stands: record i - 1 is of the bucket, and the key is among the first n if it is among the first i
 pub record Down (l : Layout) (n : ℕ) (keys key seen : List ℕ) (i : ℕ) : Type 0 where

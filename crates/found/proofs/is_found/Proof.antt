@@ -1,17 +1,16 @@
--- `peeling::is_found` meets its contract.
-use mathlib.Core.Path.{_≡_, refl, sym, ap, _∙_}
-use mathlib.Core.Bool.{true}
-use Prim.Native.Nat.{_+_, _-_, _*_, _<_, _≤_}
+-- `found::is_found` meets its contract.
+use mathlib.Core.Path.{_≡_, sym, ap, _∙_}
+use Prim.Native.Nat.{_-_}
 use native.Mathlib.Omega.{arith}
 use lib.ListN.{getD}
 use Rattle.laws.proofs.Rows.{row-within}
 use Rattle.laws.proofs.Upto.{any-yes}
 use Rattle.laws.specs.Upto.{anyUpto}
 use Rattle.list.specs.Records.{keyAt, sameBytes, isListed}
-use Rattle.peeling.specs.Seen.{bucket}
-use Rattle.peeling.proofs.Seen.{Down, down-first, down-next}
-use Rattle.peeling.proofs.is_found.Statement.{statement}
-use Rattle.peeling.proofs.is_found.Tie as tie
+use Rattle.found.specs.Seen.{bucket}
+use Rattle.found.proofs.Seen.{Down, down-first, down-next}
+use Rattle.found.proofs.is_found.Statement.{statement}
+use Rattle.found.proofs.is_found.Tie as tie
 
 abbrev Inv-loop : tie.InvT-loop
 Inv-loop l n key keys seen i₀ i = Down l n keys key seen i

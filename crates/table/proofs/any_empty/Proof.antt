@@ -7,9 +7,9 @@ use lib.Dec.{eqb}
 use lib.ListN.{getD}
 use Rattle.laws.specs.Upto.{anyUpto}
 use Rattle.laws.proofs.Upto.{any-yes, any-more}
-use Rattle.peeling.specs.Table.{anyEmpty}
-use Rattle.peeling.proofs.any_empty.Statement.{statement}
-use Rattle.peeling.proofs.any_empty.Tie as tie
+use Rattle.table.specs.Table.{anyEmpty}
+use Rattle.table.proofs.any_empty.Statement.{statement}
+use Rattle.table.proofs.any_empty.Tie as tie
 
 abbrev Inv-loop : tie.InvT-loop
 Inv-loop k flows at i₀ i = (i ≤ k) × (anyEmpty (at .at) i flows ≡ false)

@@ -1,18 +1,25 @@
+use mathlib.Core.Path.{_∙_}
 use native.Mathlib.Omega.{arith}
 use lib.ListN.{length-set}
 use Rattle.layout.specs.Sizes.{tableCells}
-use Rattle.peeling.specs.Table.{tab}
-use Rattle.peeling.proofs.Table.{taken-is}
+use Rattle.table.specs.Table.{tab}
+use Rattle.table.proofs.Table.{cell-few, key-mixed, taken-is}
 use borrow.Author.Needs.{needs}
-use Rattle.peeling.proofs.take_one.Statement.{statement}
-use Rattle.peeling.proofs.take_one.Tie as tie
+use Rattle.table.proofs.take_one.Statement.{statement}
+use Rattle.table.proofs.take_one.Tie as tie
 use Rattle.laws.proofs.Rows.{row-within}
 
-mix-key-requires : tie.Need-mix-key-requires
-mix-key-requires c κs =
-    let s = (c .before .before .before .before .before .before .before) in
+mul-xor-at : tie.Need-mul-xor-at
+mul-xor-at c =
+    let s = (c .before .before .before .before .before .before .before .before) in
     let w = row-within (s .args .c) (tableCells (s .args .l) (s .args .z)) (s .args .l .key) (s .pre .1 .inside) in
-    (omega (arith, s .pre .0 .xors-fit), s .pre .2)
+    omega (arith, s .pre .0 .xors-fit, w)
+
+xor-at-requires : tie.Need-xor-at-requires
+xor-at-requires c κs =
+    let s = (c .before .before .before .before .before .before .before .before) in
+    let w = row-within (s .args .c) (tableCells (s .args .l) (s .args .z)) (s .args .l .key) (s .pre .1 .inside) in
+    omega (arith, s .pre .0 .xors-fit, s .pre .2, w)
 
 mul-less : tie.Need-mul-less
 mul-less c = omega arith
@@ -39,26 +46,32 @@ wrapping-add-u16-requires : tie.Need-wrapping-add-u16-requires
 wrapping-add-u16-requires c κs = search needs
 
 mul-unknowns : tie.Need-mul-unknowns
-mul-unknowns c = omega arith
+mul-unknowns c =
+    let s = (c .before .before .before .before .before .before .before .before .before .before .before .before .before .before .before) in
+    omega (arith, cell-few (s .args .l) (s .args .z) (s .pre .0) (s .pre .1))
 
 slice-write-unknowns : tie.Need-slice-write-unknowns
 slice-write-unknowns c = omega arith
 
 mul-positions : tie.Need-mul-positions
-mul-positions c = omega arith
+mul-positions c =
+    let s = (c .before .before .before .before .before .before .before .before .before .before .before .before .before .before .before) in
+    omega (arith, cell-few (s .args .l) (s .args .z) (s .pre .0) (s .pre .1))
 
 slice-read-positions : tie.Need-slice-read-positions
 slice-read-positions c = omega arith
 
 mul-positions-2 : tie.Need-mul-positions-2
-mul-positions-2 c = omega arith
+mul-positions-2 c =
+    let s = (c .before .before .before .before .before .before .before .before .before .before .before .before .before .before .before .before) in
+    omega (arith, cell-few (s .args .l) (s .args .z) (s .pre .0) (s .pre .1))
 
 slice-write-positions : tie.Need-slice-write-positions
 slice-write-positions c = omega arith
 
 is-pure-requires : tie.Need-is-pure-requires
 is-pure-requires c κs =
-    let s = (c .before .before .before .before .before .before .before .before .before .before .before .before .before .before .before .before .before) in
+    let s = (c .before .before .before .before .before .before .before .before .before .before .before .before .before .before .before .before .before .before) in
     let w = row-within (s .args .c) (tableCells (s .args .l) (s .args .z)) (s .args .l .key) (s .pre .1 .inside) in (
       s .pre .0 .lays,
       s .pre .0 .ranged,
@@ -70,7 +83,7 @@ is-pure-requires c κs =
 
 put-mark-requires : tie.Need-put-mark-requires
 put-mark-requires c κs =
-    omega (arith, (c .before .before .before .before .before .before .before .before .before .before .before .before .before .before .before .before .before .before .before) .pre .0 .marks-fit, (c .before .before .before .before .before .before .before .before .before .before .before .before .before .before .before .before .before .before .before) .pre .1 .inside)
+    omega (arith, (c .before .before .before .before .before .before .before .before .before .before .before .before .before .before .before .before .before .before .before .before) .pre .0 .marks-fit, (c .before .before .before .before .before .before .before .before .before .before .before .before .before .before .before .before .before .before .before .before) .pre .1 .inside)
 
 same-length : tie.Need-same-length
 same-length c = omega arith
@@ -89,10 +102,11 @@ same-length-5 c = omega arith
 
 returns : tie.Need-returns
 returns c =
-    let a = (c .before .before .before .before .before .before .before .before .before .before .before .before .before .before .before .before .before .before .before .before .before .before) .args in
+    let s = (c .before .before .before .before .before .before .before .before .before .before .before .before .before .before .before .before .before .before .before .before .before .before .before) in
+    let a = s .args in
     taken-is (a .l) (a .z) (a .salt) (a .key .now) (a .position) (a .c)
     (tab (a .xors .now) (a .flows .now) (a .unknowns .now) (a .positions .now) (a .marks .now))
-    (c .before .before .before .before .before .before .before .before .before .before .before .before .before .before .mix-key .ensures)
+    (c .before .before .before .before .before .before .before .before .before .before .before .before .before .before .xor-at .ensures ∙ key-mixed (a .l) (a .xors .now) (a .c) (a .key .now) (s .pre .2))
     (c .before .before .before .before .before .before .before .before .before .before .less .ensures)
     (c .before .before .before .before .before .before .before .before .wrapping-add-u16 .ensures)
     (c .before .before .before .before .is-pure .ensures) (c .before .before .put-mark .ensures)
@@ -101,7 +115,8 @@ pub take-one-spec : {M : Type 1} → statement M
 take-one-spec =
     tie.close
     (tie.spec
-    mix-key-requires
+    mul-xor-at
+    xor-at-requires
     mul-less
     slice-read-less
     less-requires

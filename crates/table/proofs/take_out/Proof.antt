@@ -3,10 +3,10 @@ use Prim.Native.Nat.{_≤_, _-_}
 use native.Mathlib.Omega.{arith}
 use lib.ListN.{getD}
 use Rattle.laws.specs.Upto.{eachUpto}
-use Rattle.peeling.specs.Table.{tab, Fit, takenOut}
-use Rattle.peeling.proofs.Table.{takenUpto, place-part, taken-turn, fit-next}
-use Rattle.peeling.proofs.take_out.Statement.{statement}
-use Rattle.peeling.proofs.take_out.Tie as tie
+use Rattle.table.specs.Table.{tab, Fit, takenOut}
+use Rattle.table.proofs.Table.{takenUpto, place-part, taken-turn, fit-next}
+use Rattle.table.proofs.take_out.Statement.{statement}
+use Rattle.table.proofs.take_out.Tie as tie
 
 abbrev Inv-loop : tie.InvT-loop
 Inv-loop l z salt key position xors₀ flows₀ unknowns₀ positions₀ marks₀ at i₀ xors flows unknowns positions marks i =

@@ -1,7 +1,7 @@
 -- Cells and their parts, the code's ways to a pure cell and to a key taken out, and the lengths that each step keeps.
 use mathlib.Core.Path.{_≡_, sym, ap, ap₂, _∙_}
 use mathlib.Core.Bool.{Bool, false}
-use mathlib.Core.List.{List, _++_}
+use mathlib.Core.List.{List}
 use Prim.Native.Nat.{ℕ, _+_, _-_, _*_, _%_, _^_, _<_}
 use native.Mathlib.Decide.{decLt}
 use native.Mathlib.Nat.{mul-le-mul}
@@ -9,25 +9,23 @@ use native.Mathlib.Omega.{arith}
 use borrow.Author.Tests.{eq-eqb, ne-eqb, eqb-true}
 use lib.Bits.{bitXor}
 use lib.Dec.{eqb}
-use lib.ListN.{length, getD, set, take, drop, length-set}
+use lib.ListN.{length, getD, set, length-set}
 use lib.Seq.{length-sets}
 use Rattle.laws.specs.Xor.{xorBytes}
 use Rattle.laws.specs.Upto.{eachUpto, listUpto}
 use Rattle.laws.proofs.Bools.{iff}
-use Rattle.laws.proofs.Lists.{lent-sets}
 use Rattle.laws.proofs.Upto.{each-more, each-keeps, list-at, any-at}
-use Rattle.laws.proofs.Xor.{xorBytes-length}
+use Rattle.fields.specs.Field.{xoredAt}
 use Rattle.layout.specs.declared.Layout.{Layout}
 use Rattle.layout.specs.declared.Sizes.{Sizes}
 use Rattle.layout.specs.Sizes.{Lays, Ranged, partCells, tableCells}
-use Rattle.hash.specs.Fnv.{hashOf, place}
-use Rattle.hash.specs.Places.{cellOf, hasCell, cellRole}
+use Rattle.layout.proofs.Ranges.{table-high}
+use Rattle.hash.specs.Places.{cellOf, hasCell}
 use Rattle.hash.proofs.Apart.{cell-in-part, cell-within, has-own, has-some}
 use Rattle.list.specs.Records.{keyAt}
-use Rattle.list.proofs.Laws.{length-key}
 use Rattle.marks.specs.Marks.{putMark}
 use Rattle.marks.proofs.Laws.{length-put}
-use Rattle.peeling.specs.Table.{Tab, tab, Fit, InBytes, InPart, pureAt, anyEmpty, hasEmpty, mixed, oneLess, takenAt, takenOut}
+use Rattle.table.specs.Table.{Tab, tab, Fit, InPart, pureAt, anyEmpty, hasEmpty, mixed, oneLess, takenAt, takenOut}
 use Rattle.laws.proofs.Rows.{row-within}
 
 -- ---- parts
@@ -63,12 +61,8 @@ module _ (l : Layout) (z : Sizes) (lays : Lays l) (r : Ranged z) where
       eq-eqb (cellOf l z salt key i) c (ap (cellOf l z salt key) (sym e) ∙ s .2))
       (λ h. ap (hasCell l z salt key) (sym (eqb-true (cellOf l z salt key i) c h)) ∙ has-own l z lays r salt key i (part-below p))
 
--- the cell that the code works out from one chain of the hash
-pub cell-chosen : (l : Layout) (z : Sizes) (salt i : ℕ) (key : List ℕ) {s h p : ℕ} → s ≡ partCells l z → h ≡ hashOf salt cellRole i key
-    → p ≡ place h s
-    → i * s + p ≡ cellOf l z salt key i
-unfolding cellOf
-cell-chosen l z salt i key e f g = rw (g, f, e)
+pub cell-few : (l : Layout) (z : Sizes) {t : Tab} {i c : ℕ} → Fit l z t → InPart l z i c → c < 1536
+cell-few l z f p = omega (arith, p .inside, table-high l z (f .lays) (f .ranged))
 
 -- ---- a pure cell
 pub pure-no : (l : Layout) (z : Sizes) (salt : ℕ) (xors flows : List ℕ) (c : ℕ) → (getD flows c 0 ≡ 1 → ⊥) → false ≡ pureAt l z salt xors flows c
@@ -94,16 +88,9 @@ pub place-part : (l : Layout) (z : Sizes) (lays : Lays l) (r : Ranged z) (salt :
 place-part l z lays r salt key e i h = rw (e, list-at 4 (cellOf l z salt key) 0 i (omega (arith, r .k-high))) (cell-part l z lays r salt key i h)
 
 -- ---- a key taken out of one cell
-pub key-mixed : (l : Layout) (xors : List ℕ) (c : ℕ) (key : List ℕ) {k : ℕ} {new : List ℕ} → InBytes l (length xors) c → length key ≡ l .key
-    → k ≡ l .key
-    → new ≡ xorBytes (take k (drop (c * l .key) xors)) key
-    → take (c * l .key) xors ++ (new ++ drop k (drop (c * l .key) xors)) ≡ mixed l xors c key
-unfolding mixed keyAt
-key-mixed l xors c key {k} {new} h e q f =
-    let new-is : new ≡ xorBytes (take (l .key) (drop (c * l .key) xors)) key = f ∙ ap (λ m. xorBytes (take m (drop (c * l .key) xors)) key) q in
-    rw new-is
-    (lent-sets (xorBytes (keyAt l xors c) key) xors (c * l .key) k (xorBytes-length (keyAt l xors c) key (l .key) (length-key l xors c h) e ∙ sym q)
-    (omega arith))
+pub key-mixed : (l : Layout) (xors : List ℕ) (c : ℕ) (key : List ℕ) → length key ≡ l .key → xoredAt xors (c * l .key) key ≡ mixed l xors c key
+unfolding xoredAt mixed keyAt
+key-mixed l xors c key e = rw e
 
 pub length-mixed : (l : Layout) (xors : List ℕ) (c : ℕ) (key : List ℕ) → length (mixed l xors c key) ≡ length xors
 unfolding mixed

@@ -1,0 +1,3 @@
+-- Laws of finding a listed key.
+pub mod Seen
+pub mod Outcomes

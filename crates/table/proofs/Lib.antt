@@ -1,0 +1,3 @@
+-- Laws of the table.
+pub mod Table
+pub mod Outcomes
