@@ -12,10 +12,10 @@ use Rattle.layout.specs.Sizes.{Ranged, inRange, ipv4Layout, tableCells}
 use Rattle.layout.proofs.Ranges.{ranged, lays-ipv4, table-low, table-high}
 use Rattle.list.specs.Records.{Records}
 use Rattle.packet.specs.declared.Key.{Key}
-use Rattle.image.specs.declared.Reading.{Reading}
-use Rattle.image.specs.declared.Reading.the-variants as read
-use Rattle.image.specs.Read.{readOf}
-use Rattle.image.proofs.Accepts.{accepted}
+use Rattle.reading.specs.declared.Reading.{Reading}
+use Rattle.reading.specs.declared.Reading.the-variants as read
+use Rattle.reading.specs.Read.{readOf}
+use Rattle.reading.proofs.Accepts.{accepted}
 use Rattle.room.specs.declared.Session.{Session}
 use Rattle.room.specs.Memory.{Memory, roomFits}
 use Rattle.room.specs.Test.{tested}

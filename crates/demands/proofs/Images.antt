@@ -8,9 +8,9 @@ use Rattle.laws.specs.BigEndian.{Bytes}
 use Rattle.layout.specs.declared.Layout.{Layout}
 use Rattle.layout.specs.declared.Sizes.{Sizes}
 use Rattle.layout.specs.Sizes.{Lays}
-use Rattle.image.specs.Read.{readOf, filterIn, cellsIn}
-use Rattle.image.specs.Seal.{Sealable}
-use Rattle.image.specs.declared.Reading.the-variants.{Image}
+use Rattle.reading.specs.Read.{readOf, filterIn, cellsIn}
+use Rattle.sealing.specs.Seal.{Sealable}
+use Rattle.reading.specs.declared.Reading.the-variants.{Image}
 use Rattle.image.proofs.Back.{read-only}
 use Rattle.image.proofs.Blocks.{length-image}
 use Rattle.session.specs.Calls.{settleOf, settleNumber}

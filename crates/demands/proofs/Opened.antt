@@ -14,7 +14,7 @@ use Rattle.layout.specs.declared.Sizes.{Sizes}
 use Rattle.layout.specs.Sizes.{Lays, tableCells, cellBytes}
 use Rattle.cell.specs.Cell.{flowXorAt, flowCountAt, packetCountAt}
 use Rattle.list.specs.Records.{keyAt}
-use Rattle.image.specs.Read.{cellsIn, filterIn}
+use Rattle.reading.specs.Read.{cellsIn, filterIn}
 use Rattle.opening.specs.Open.{xorsIn, flowsIn, packetsIn, openedMemory}
 use Rattle.theory.specs.Session.{opened}
 use Rattle.meaning.specs.View.{cellAt, tableOf, switchOf}

@@ -14,12 +14,13 @@ use Rattle.layout.proofs.Ranges.{range-test}
 use Rattle.marks.specs.Marks.{Words, putMark, wordsFor}
 use Rattle.marks.proofs.Laws.{words-put}
 use Rattle.table.specs.Table.{pureAt}
-use Rattle.image.specs.Block.{imageOf}
-use Rattle.image.specs.Read.{readOf, cellsIn, filterIn}
-use Rattle.image.specs.Seal.{Sealable, sealOf, sealRooms, zeroBytes}
-use Rattle.image.specs.declared.Reading.{Reading}
-use Rattle.image.specs.declared.Reading.the-variants as read
-use Rattle.image.proofs.Back.{seal-done, read-back}
+use Rattle.block.specs.Block.{imageOf, zeroBytes}
+use Rattle.reading.specs.Read.{readOf, cellsIn, filterIn}
+use Rattle.sealing.specs.Seal.{Sealable, sealOf, sealRooms}
+use Rattle.reading.specs.declared.Reading.{Reading}
+use Rattle.reading.specs.declared.Reading.the-variants as read
+use Rattle.sealing.proofs.Answers.{seal-done}
+use Rattle.image.proofs.Back.{read-back}
 use Rattle.image.proofs.Blocks.{length-image}
 use Rattle.opening.specs.Open.{marksOf, openedMemory}
 use Rattle.opening.proofs.Answers.{opened-rooms, opened-session, open-done, open-read}

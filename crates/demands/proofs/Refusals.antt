@@ -18,10 +18,12 @@ use Rattle.packet.specs.Key.{keyBytes}
 use Rattle.encoder.specs.Encoder.{roomsFit, isFull, startOf, starting, packetOf, taking, offer, offerKey}
 use Rattle.encoder.specs.declared.Started.the-variants as started
 use Rattle.encoder.specs.declared.Taken.the-variants as taken
-use Rattle.image.specs.Seal.{sealRooms, zeroBytes, sealOf, sealing}
-use Rattle.image.specs.Read.{blockAt, badLength, checks, sizesIn, formed, readLater, readOf}
-use Rattle.image.specs.declared.Sealed.the-variants as sealed
-use Rattle.image.specs.declared.Reading.the-variants as read
+use Rattle.sealing.specs.Seal.{sealRooms, sealOf, sealing}
+use Rattle.block.specs.Block.{zeroBytes, blockAt}
+use Rattle.form.specs.Form.{sizesIn, formed}
+use Rattle.reading.specs.Read.{badLength, checks, readLater, readOf}
+use Rattle.sealing.specs.declared.Sealed.the-variants as sealed
+use Rattle.reading.specs.declared.Reading.the-variants as read
 use Rattle.list.specs.Records.{isListed}
 use Rattle.table.specs.Table.{hasEmpty}
 use Rattle.test8.specs.Test8.{isSession, handedIn}

@@ -7,8 +7,8 @@ use Prim.Native.Nat.{ℕ, _^_, _<_}
 use Rattle.layout.specs.declared.Layout.{Layout}
 use Rattle.layout.specs.declared.Sizes.{Sizes}
 use Rattle.meaning.specs.Meaning as encoder
-use Rattle.image.specs.declared.Sealed.the-variants.{Done}
-use Rattle.image.specs.Seal.{sealOf, sealing}
+use Rattle.sealing.specs.declared.Sealed.the-variants.{Done}
+use Rattle.sealing.specs.Seal.{sealOf, sealing}
 use Rattle.room.specs.Memory.{Memory}
 use Rattle.opening.specs.declared.Opened.the-variants.{Open}
 use Rattle.opening.specs.Open.{openOf, opening}

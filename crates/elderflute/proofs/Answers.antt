@@ -8,10 +8,10 @@ use borrow.Author.Tests.{eq-eqb, ne-eqb}
 use Rattle.layout.specs.Sizes.{ipv4Layout}
 use Rattle.packet.specs.declared.Keyed.{Keyed}
 use Rattle.packet.specs.Packet.{keyOf}
-use Rattle.image.specs.declared.Reading.{Reading}
-use Rattle.image.specs.declared.Reading.the-variants as read
-use Rattle.image.specs.Read.{readOf, readNumber, readBlock}
-use Rattle.image.proofs.Accepts.{accepted}
+use Rattle.reading.specs.declared.Reading.{Reading}
+use Rattle.reading.specs.declared.Reading.the-variants as read
+use Rattle.reading.specs.Read.{readOf, readNumber, readBlock}
+use Rattle.reading.proofs.Accepts.{accepted}
 use Rattle.opening.specs.declared.Opened.{Opened}
 use Rattle.opening.specs.declared.Opened.the-variants as opened
 use Rattle.opening.specs.Open as below

@@ -8,7 +8,7 @@ use Rattle.packet.specs.declared.Keyed.the-variants.{Flow, Refused}
 use Rattle.packet.specs.Packet.{keyOf, number}
 use Rattle.packet.specs.Key.{keyBytes}
 use Rattle.encoder.specs.Encoder.{startOf, startNumber, packetOf, takeNumber}
-use Rattle.image.specs.Seal.{sealOf, sealNumber}
+use Rattle.sealing.specs.Seal.{sealOf, sealNumber}
 
 -- ---- the key of a packet: 01's number, and what then stands in the 13 bytes
 pub record Keying : Type 0 where

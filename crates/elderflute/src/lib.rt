@@ -1,30 +1,30 @@
 // The library for C and Rust: every call of 01 under a name of its own, over numbers, pointers to a few numbers, and slices.
 // Each function makes one call of the crates below and puts its answer into 01's number and what is lent for the rest. It rests on packet, encoder,
-// image, session and printing for the calls.
+// sealing, reading, session and printing for the calls.
 ghost use mathlib.Core.Path.{_≡_};
 ghost use Rattle.layout.specs.Sizes.{Ranged};
 ghost use Rattle.list.specs.Records.{records};
 ghost use Rattle.table.specs.Table.{tab};
 ghost use Rattle.room.specs.Memory.{memory};
 ghost use Rattle.encoder.specs.Encoder.{startNumber, takeNumber};
-ghost use Rattle.image.specs.Seal.{sealNumber};
-ghost use Rattle.image.specs.Read.{readBlock};
+ghost use Rattle.sealing.specs.Seal.{sealNumber};
+ghost use Rattle.reading.specs.Read.{readBlock};
 ghost use Rattle.opening.specs.Open.{openBlock};
 ghost use Rattle.elderflute.specs.Numbers.{sizesOf, sessionOf, numbersOf, stateNumber, figuresOf};
 ghost use Rattle.elderflute.specs.Flowset.{keying, keyCall, working, startCall, packetCall, sealing, sealCall};
 ghost use Rattle.elderflute.specs.Images.{ReadSized, OpenSized, readLeft, readLeaves, readCall, openLeft, openLeaves, opening, openCall};
 ghost use Rattle.elderflute.specs.Sessions.{handLeft, handLeaves, handing, handOverCall, settleLeft, settleLeaves, settling, settleCall};
-ghost use Rattle.elderflute.specs.Exchanges.{exchangeLeft, exchangeLeaves, exchanging, exchangeCall};
 ghost use Rattle.elderflute.specs.Sessions.{reporting, reportLeaves, reportCall, printing, printCall};
+ghost use Rattle.elderflute.specs.Exchanges.{exchangeLeft, exchangeLeaves, exchanging, exchangeCall};
 use encoder::Started;
 use encoder::Taken;
 use exchange::Exchanged;
-use image::Reading;
-use image::Sealed;
 use layout::Sizes;
 use opening::Opened;
 use packet::Keyed;
+use reading::Reading;
 use room::Session;
+use sealing::Sealed;
 use session::HandOver;
 use session::Reported;
 use session::Settled;
@@ -166,7 +166,7 @@ pub extern "C" fn elderflute_seal(
     ensures { λ r. ⌜ sealing r (now (image .exit))
         ≡ sealCall (sizesOf kf f k q) salt slot (now (filter .entry)) (now (cells .entry)) (now (image .entry)) ⌝ }
 {
-    seal_number(image::seal(sizes_of(kf, f, k, q), salt, slot, filter, cells, image))
+    seal_number(sealing::seal(sizes_of(kf, f, k, q), salt, slot, filter, cells, image))
 }
 
 fn read_block(a: Reading) -> usize
@@ -211,7 +211,7 @@ pub extern "C" fn elderflute_read(
 ) -> u32
     ensures { λ r. ⌜ readLeft r (now (numbers .exit)) (now (block .exit)) ≡ readCall (now (image .entry)) slot (now (numbers .entry)) ⌝ }
 {
-    put_reading(image::read(image, slot), slot, numbers, block)
+    put_reading(reading::read(image, slot), slot, numbers, block)
 }
 
 // ---- a session

@@ -4,11 +4,11 @@ ghost use Prim.Native.Nat.{_≤_};
 ghost use lib.ListN.{length};
 use encoder::Started;
 use encoder::Taken;
-use image::Sealed;
 use layout::Sizes;
 use libc::STDERR_FILENO;
 use libc::STDIN_FILENO;
 use libc::STDOUT_FILENO;
+use sealing::Sealed;
 
 fn complain(text: &[u8]) {
     io::write_all(STDERR_FILENO, text);
@@ -90,7 +90,7 @@ fn take_all(z: Sizes, salt: u32, input: &[u8], filter: &mut [u8], cells: &mut [u
 
 // Seals the flowset and writes the image.
 fn write_image(z: Sizes, salt: u32, slot: u32, filter: &[u8], cells: &[u8], image: &mut [u8]) {
-    match image::seal(z, salt, slot, filter, cells, image) {
+    match sealing::seal(z, salt, slot, filter, cells, image) {
         Sealed::Done => {
             io::write_all(STDOUT_FILENO, image);
         }

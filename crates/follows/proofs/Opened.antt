@@ -10,7 +10,8 @@ use Rattle.laws.proofs.BigEndian.{bytes-append, bytes-take, bytes-drop}
 use Rattle.layout.specs.declared.Sizes.{Sizes}
 use Rattle.layout.specs.Sizes.{ipv4Layout, tableCells}
 use Rattle.cell.specs.Cell.{flowXorAt}
-use Rattle.image.specs.Read.{blockAt, cellsIn}
+use Rattle.block.specs.Block.{blockAt}
+use Rattle.reading.specs.Read.{cellsIn}
 use Rattle.room.specs.declared.Session.{Session}
 use Rattle.room.specs.Memory.{Memory}
 use Rattle.opening.specs.declared.Opened.{Opened}

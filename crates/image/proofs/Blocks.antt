@@ -20,15 +20,17 @@ use Rattle.layout.specs.declared.Sizes.{Sizes}
 use Rattle.layout.specs.Sizes.{Lays, tableCells, filterBytes, blocks}
 use Rattle.layout.proofs.Ranges.{blocks-high}
 use Rattle.fields.specs.Field.{allZero}
-use Rattle.image.specs.declared.Reading.the-variants.{Image}
-use Rattle.image.specs.Block.{block, padded, blockOf, imageOf}
-use Rattle.image.specs.Seal.{zeroBytes, Sealable}
-use Rattle.image.specs.Read.{blockAt, kindOf, cellsFormed, readOf, filterIn, cellsIn}
-use Rattle.image.proofs.Stores.{length-padded, length-block, cells-fill}
-use Rattle.image.proofs.OneBlock.{Formed, is-formed, form-facts, block-only}
-use Rattle.image.proofs.OneBlock.{kind-back, sizes-back, five-back, number-back, salt-back, slot-back, payload-back, end-back, check-back}
-use Rattle.image.proofs.Accepts.{Passes, Accepted, accepts}
-use Rattle.image.proofs.Rows.{padded-back, padded-only, used-long, zero-take, cells-back, zero-blocks}
+use Rattle.reading.specs.declared.Reading.the-variants.{Image}
+use Rattle.block.specs.Block.{block, padded, blockOf, imageOf, zeroBytes, blockAt}
+use Rattle.sealing.specs.Seal.{Sealable}
+use Rattle.form.specs.Form.{kindOf, cellsFormed}
+use Rattle.reading.specs.Read.{readOf, filterIn, cellsIn}
+use Rattle.block.proofs.Lengths.{length-padded, length-block}
+use Rattle.block.proofs.Cells.{cells-fill, used-long}
+use Rattle.form.proofs.Form.{Formed, is-formed, form-facts}
+use Rattle.image.proofs.OneBlock.{block-only, kind-back, sizes-back, five-back, number-back, salt-back, slot-back, payload-back, end-back, check-back}
+use Rattle.reading.proofs.Accepts.{Passes, Accepted, accepts}
+use Rattle.image.proofs.Rows.{padded-back, padded-only, zero-take, cells-back, zero-blocks}
 use Rattle.fields.proofs.Runs.{zeros-zero}
 use Rattle.laws.proofs.Rows.{join-same, length-join, join-part, join-add, row-long, join-whole}
 

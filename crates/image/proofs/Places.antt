@@ -9,9 +9,9 @@ use Rattle.laws.proofs.Lists.{part-at}
 use Rattle.layout.specs.declared.Layout.{Layout}
 use Rattle.layout.specs.declared.Sizes.{Sizes}
 use Rattle.layout.specs.Sizes.{Lays, tableCells, filterBits, blocks}
-use Rattle.image.specs.Read.{blockAt, filterIn, cellsIn}
-use Rattle.image.proofs.Stores.{table-rows}
-use Rattle.image.proofs.Rows.{used-long, byte-place}
+use Rattle.block.specs.Block.{blockAt}
+use Rattle.reading.specs.Read.{filterIn, cellsIn}
+use Rattle.block.proofs.Cells.{table-rows, used-long, byte-place}
 use Rattle.laws.proofs.Rows.{row-within, join-at}
 
 module _ (z : Sizes) (image : List ℕ) (whole : length image ≡ blocks z * 512) where

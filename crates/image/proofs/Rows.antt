@@ -1,27 +1,23 @@
 -- Cells in blocks: the zero byte of every cell, block by block, and payloads that the cells leave partly unused.
 use mathlib.Core.Path.{_≡_, sym, ap, _∙_}
-use mathlib.Core.Bool.{true, false}
+use mathlib.Core.Bool.{true}
 use mathlib.Core.List.{List, _++_}
 use Prim.Native.Nat.{ℕ, _+_, _-_, _*_, _≤_, _<_}
-use native.Mathlib.Nat.{add-mul, add-assoc, mul-assoc}
 use native.Mathlib.Omega.{arith}
-use borrow.Author.Tests.{eq-eqb, ne-eqb}
 use lib.Dec.{eqb}
 use lib.ListN.{length, getD, take, drop, replicate, length-drop, take-append-drop}
 use lib.Seq.{take-at, drop-at, getD-take, length-take-le}
 use Rattle.laws.specs.Upto.{allUpto, joinUpto}
 use Rattle.laws.proofs.Bools.{and-i}
-use Rattle.laws.proofs.Lists.{length-part}
-use Rattle.laws.proofs.Upto.{all-same, all-no, all-more}
+use Rattle.laws.proofs.Upto.{all-same}
 use Rattle.layout.specs.declared.Layout.{Layout}
 use Rattle.layout.specs.declared.Sizes.{Sizes}
-use Rattle.layout.specs.Sizes.{Lays, tableCells, blocks}
+use Rattle.layout.specs.Sizes.{Lays, tableCells}
 use Rattle.fields.specs.Field.{allZero}
 use Rattle.fields.proofs.Runs.{zero-is, zeros-zero}
-use Rattle.image.specs.Block.{padded}
-use Rattle.image.specs.Seal.{zeroBytes}
-use Rattle.image.specs.Read.{blockAt, cellsFormed}
-use Rattle.image.proofs.Stores.{table-rows}
+use Rattle.block.specs.Block.{padded, zeroBytes}
+use Rattle.form.specs.Form.{cellsFormed}
+use Rattle.block.proofs.Cells.{table-rows, byte-place}
 use Rattle.laws.proofs.Rows.{row-within, all-rows, join-at}
 
 -- a payload is the part that is used, padded
@@ -39,26 +35,6 @@ padded-only w payload h p zeros =
     let k = length-take-le w payload (omega arith) in
     let rest : length (drop w payload) ≡ 480 - length (take w payload) = rw (length-drop, k) (omega arith) in
     sym (take-append-drop w payload) ∙ ap (λ s. take w payload ++ s) (zero-is (drop w payload) zeros ∙ ap (λ n. replicate n 0) rest)
-
--- the used bytes of a payload are there
-pub used-long : (z : Sizes) (image : List ℕ) → length image ≡ blocks z * 512 → (n w : ℕ) → n < blocks z → w ≤ 480
-    → length (take w (drop 16 (blockAt image n))) ≡ w
-used-long z image whole n w h q = length-part (blockAt image n) 16 w (omega (arith, length-part image (n * 512) 512 (omega arith)))
-
--- byte j of cell c of block m
-pub byte-place : (l : Layout) (m c j : ℕ) → (m * l .cells + c) * l .cell + j ≡ m * (l .cells * l .cell) + (c * l .cell + j)
-byte-place l m c j =
-    rw (add-mul (m * l .cells) c (l .cell), mul-assoc m (l .cells) (l .cell)) (add-assoc (m * (l .cells * l .cell)) (c * l .cell) j)
-
--- the zero bytes, one cell at a time
-pub zero-no : (l : Layout) (n : ℕ) (s : List ℕ) (c : ℕ) → c < n → (getD s (c * l .cell + l .key) 0 ≡ 0 → ⊥) → false ≡ zeroBytes l n s
-unfolding zeroBytes
-zero-no l n s c h p = sym (all-no n (λ i. eqb (getD s (i * l .cell + l .key) 0) 0) c h (ne-eqb (getD s (c * l .cell + l .key) 0) 0 p))
-
-pub zero-more : (l : Layout) (s : List ℕ) (c : ℕ) → zeroBytes l c s ≡ true → getD s (c * l .cell + l .key) 0 ≡ 0 → zeroBytes l (c + 1) s ≡ true
-unfolding zeroBytes
-zero-more l s c h p =
-    all-more c (λ i. eqb (getD s (i * l .cell + l .key) 0) 0) ∙ rw h (eq-eqb (getD s (c * l .cell + l .key) 0) 0 p)
 
 module _ (l : Layout) (lays : Lays l) where
   -- the zero byte of cell c lies in the cells

@@ -11,9 +11,9 @@ use Rattle.laws.proofs.Upto.{length-list}
 use Rattle.layout.specs.declared.Layout.{Layout}
 use Rattle.layout.specs.declared.Sizes.{Sizes}
 use Rattle.layout.specs.Sizes.{Lays, Ranged, tableCells, blocks}
-use Rattle.image.specs.declared.Reading.{Reading}
-use Rattle.image.specs.declared.Reading.the-variants as read
-use Rattle.image.specs.Read.{readOf}
+use Rattle.reading.specs.declared.Reading.{Reading}
+use Rattle.reading.specs.declared.Reading.the-variants as read
+use Rattle.reading.specs.Read.{readOf}
 use Rattle.room.specs.declared.Session.{Session}
 use Rattle.room.specs.Memory.{Memory, Rooms, roomFits}
 use Rattle.test8.specs.Test8.{isSession}

@@ -17,9 +17,9 @@ use Rattle.layout.specs.declared.Sizes.{Sizes}
 use Rattle.layout.specs.Sizes.{Lays, tableCells, cellBytes, filterBytes, blocks}
 use Rattle.fields.specs.Field.{field}
 use Rattle.cell.specs.Cell.{flowCountPlace, packetCountPlace, flowXorAt, flowCountAt, packetCountAt}
-use Rattle.image.specs.Read.{blockAt, filterIn, cellsIn}
-use Rattle.image.proofs.Rows.{used-long, byte-place}
-use Rattle.image.proofs.Stores.{table-rows, cells-fill}
+use Rattle.block.specs.Block.{blockAt}
+use Rattle.reading.specs.Read.{filterIn, cellsIn}
+use Rattle.block.proofs.Cells.{used-long, byte-place, table-rows, cells-fill}
 use Rattle.opening.specs.Blocks.{Fields, fields, copiedCell, copiedBlock}
 use Rattle.opening.specs.Open.{xorsIn, flowsIn, packetsIn}
 

@@ -10,10 +10,10 @@ use denote.Enum.Declared.{tagOf}
 use lib.ListN.{length, replicate}
 use Rattle.layout.specs.declared.Layout.{Layout}
 use Rattle.layout.specs.declared.Sizes.{Sizes}
-use Rattle.image.specs.declared.Reading.{Reading}
-use Rattle.image.specs.declared.Reading.the-variants as read
-use Rattle.image.specs.Read.{readOf, filterIn}
-use Rattle.image.proofs.Reading as reading
+use Rattle.reading.specs.declared.Reading.{Reading}
+use Rattle.reading.specs.declared.Reading.the-variants as read
+use Rattle.reading.specs.Read.{readOf, filterIn}
+use Rattle.reading.proofs.Reading as reading
 use Rattle.list.specs.Records.{records}
 use Rattle.table.specs.Table.{tab}
 use Rattle.room.specs.declared.Session.{Session}

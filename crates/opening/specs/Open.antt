@@ -8,9 +8,9 @@ use Rattle.layout.specs.declared.Layout.{Layout}
 use Rattle.layout.specs.declared.Sizes.{Sizes}
 use Rattle.layout.specs.Sizes.{tableCells}
 use Rattle.cell.specs.Cell.{flowXorAt, flowCountAt, packetCountAt}
-use Rattle.image.specs.declared.Reading.{Reading}
-use Rattle.image.specs.declared.Reading.the-variants as read
-use Rattle.image.specs.Read.{readOf, filterIn, cellsIn}
+use Rattle.reading.specs.declared.Reading.{Reading}
+use Rattle.reading.specs.declared.Reading.the-variants as read
+use Rattle.reading.specs.Read.{readOf, filterIn, cellsIn}
 use Rattle.list.specs.Records.{records}
 use Rattle.marks.specs.Marks.{wordsFor, putMark}
 use Rattle.table.specs.Table.{tab, pureAt}

@@ -1,19 +1,19 @@
 // Opening a session: an image is read, its filter and cells are copied into lent room, the list is cleared, and marks and numbers are set right.
-// It rests on image for reading, on cell for the fields of a cell, on table for pure cells, and on room for the lengths.
+// It rests on reading, on block for where a cell stands, on cell for the fields of a cell, on table for pure cells, and on room for the lengths.
 ghost use mathlib.Core.Path.{_≡_};
 ghost use Prim.Native.Nat.{_+_, _*_, _≤_};
 ghost use lib.ListN.{length, replicate};
 ghost use Rattle.layout.specs.Sizes.{Lays, Ranged, tableCells, blocks, filterBytes};
-ghost use Rattle.image.specs.Read.{filterIn};
+ghost use Rattle.reading.specs.Read.{filterIn};
 ghost use Rattle.list.specs.Records.{records};
 ghost use Rattle.marks.specs.Marks.{wordsFor};
 ghost use Rattle.table.specs.Table.{tab};
 ghost use Rattle.room.specs.Memory.{memory, Rooms};
 ghost use Rattle.opening.specs.Blocks.{fields, copiedCell, copiedBlock};
 ghost use Rattle.opening.specs.Open.{xorsIn, flowsIn, packetsIn, marksOf, openedMemory, refused, opening, openOf};
-use image::Reading;
 use layout::Layout;
 use layout::Sizes;
+use reading::Reading;
 use room::Session;
 
 // What opening answers: the session, or why there is none.
@@ -247,7 +247,7 @@ pub fn open_in(
         (tab (now (xors .entry)) (now (flows .entry)) (now (unknowns .entry)) (now (positions .entry)) (now (marks .entry)))
         (now (packets .entry)) (records (now (keys .entry)) (now (counts .entry)) (now (flags .entry)))) ⌝ }
 {
-    let r = image::read_in(l, image, slot);
+    let r = reading::read_in(l, image, slot);
     let Reading::Image(z, salt) = r else {
         return refusal(r);
     };

@@ -22,11 +22,11 @@ use Rattle.layout.specs.Sizes.{Ranged, ipv4Layout, tableCells, cellBytes, filte
 use Rattle.layout.proofs.Ranges.{lays-ipv4, range-test}
 use Rattle.fields.specs.Field.{field}
 use Rattle.cell.specs.Cell.{flowCountAt}
-use Rattle.image.specs.Block.{imageOf}
-use Rattle.image.specs.Seal.{Sealable, zeroBytes}
-use Rattle.image.specs.declared.Reading.the-variants.{Image}
-use Rattle.image.specs.Read.{readOf, filterIn, cellsIn}
-use Rattle.image.proofs.Accepts.{accepted}
+use Rattle.block.specs.Block.{imageOf, zeroBytes}
+use Rattle.sealing.specs.Seal.{Sealable}
+use Rattle.reading.specs.declared.Reading.the-variants.{Image}
+use Rattle.reading.specs.Read.{readOf, filterIn, cellsIn}
+use Rattle.reading.proofs.Accepts.{accepted}
 use Rattle.image.proofs.Back.{read-back}
 use Rattle.list.specs.Records.{Records}
 use Rattle.marks.specs.Marks.{wordsFor, putMark, firstMark}

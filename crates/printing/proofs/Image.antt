@@ -8,11 +8,11 @@ use types.Run.{OneOf}
 use denote.Enum.Declared.{tagOf}
 use Rattle.layout.specs.Sizes.{Ranged, ipv4Layout}
 use Rattle.layout.proofs.Ranges.{lays-ipv4}
-use Rattle.image.specs.declared.Reading.{Reading}
-use Rattle.image.specs.declared.Reading.the-variants as read
-use Rattle.image.specs.Read.{readOf, readNumber}
-use Rattle.image.proofs.Reading as reading
-use Rattle.image.proofs.Accepts.{accepted}
+use Rattle.reading.specs.declared.Reading.{Reading}
+use Rattle.reading.specs.declared.Reading.the-variants as read
+use Rattle.reading.specs.Read.{readOf, readNumber}
+use Rattle.reading.proofs.Reading as reading
+use Rattle.reading.proofs.Accepts.{accepted}
 use Rattle.room.specs.declared.Session.{Session}
 use Rattle.room.specs.Memory.{Memory, Rooms}
 use Rattle.room.proofs.Laws.{rooms-asked}

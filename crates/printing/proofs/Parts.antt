@@ -9,7 +9,7 @@ use Rattle.layout.specs.declared.Layout.{Layout}
 use Rattle.layout.specs.declared.Sizes.{Sizes}
 use Rattle.layout.specs.Sizes.{Ranged, ipv4Layout, tableCells, filterBytes}
 use Rattle.layout.proofs.Ranges.{lays-ipv4, table-high}
-use Rattle.image.specs.Read.{readOf}
+use Rattle.reading.specs.Read.{readOf}
 use Rattle.list.specs.Records.{records}
 use Rattle.table.specs.Table.{tab}
 use Rattle.room.specs.Memory.{Memory, memory, Rooms}

@@ -11,9 +11,9 @@ use Rattle.layout.specs.Sizes.{ipv4Layout}
 use Rattle.fields.specs.Field.{field}
 use Rattle.packet.specs.Key.{keyFrom}
 use Rattle.list.specs.Records.{Records, keyAt, isKnown}
-use Rattle.image.specs.declared.Reading.{Reading}
-use Rattle.image.specs.declared.Reading.the-variants as read
-use Rattle.image.specs.Read.{readOf, readNumber}
+use Rattle.reading.specs.declared.Reading.{Reading}
+use Rattle.reading.specs.declared.Reading.the-variants as read
+use Rattle.reading.specs.Read.{readOf, readNumber}
 use Rattle.room.specs.declared.Session.{Session}
 use Rattle.room.specs.Memory.{Memory}
 use Rattle.opening.specs.Open.{openedMemory}

@@ -6,7 +6,7 @@ ghost use lib.ListN.{length};
 ghost use lib.Seq.{sets};
 ghost use Rattle.laws.specs.Upto.{joinUpto};
 ghost use Rattle.layout.specs.Sizes.{ipv4Layout};
-ghost use Rattle.image.specs.Read.{readOf};
+ghost use Rattle.reading.specs.Read.{readOf};
 ghost use Rattle.opening.specs.Open.{openNumber};
 ghost use Rattle.list.specs.Records.{records};
 ghost use Rattle.table.specs.Table.{tab};
@@ -14,9 +14,9 @@ ghost use Rattle.room.specs.Memory.{memory, Rooms};
 ghost use Rattle.session.specs.Calls.{settleNumber};
 ghost use Rattle.lines.specs.Text.{Put};
 ghost use Rattle.printing.specs.Print.{mostWritten, recordLine, listedLines, sessionLines, imageLines, printed, sizesRead, Largest};
-use image::Reading;
 use layout::Sizes;
 use opening::Opened;
+use reading::Reading;
 use room::Session;
 use session::Settled;
 
@@ -274,7 +274,7 @@ fn print_image(image: &[u8], slot: u32, out: &mut [u8]) -> usize
     requires { ⌜ mostWritten ≤ length (now out) ⌝ }
     ensures { λ r. ⌜ Put (now (out .entry)) (now (out .exit)) 0 r (imageLines slot (now (image .entry))) ⌝ }
 {
-    let z = sizes_read(image::read(image, slot));
+    let z = sizes_read(reading::read(image, slot));
     let mut filter = [0u8; 7680];
     let mut xors = [0u8; 19968];
     let mut flows = [0u16; 1536];

@@ -7,7 +7,7 @@ use native.Mathlib.Omega.{arith}
 use Rattle.layout.specs.declared.Layout.{Layout}
 use Rattle.layout.specs.Sizes.{Lays}
 use Rattle.layout.proofs.Ranges.{range-test}
-use Rattle.image.proofs.Accepts.{accepted}
+use Rattle.reading.proofs.Accepts.{accepted}
 use Rattle.peeling.specs.declared.Stop.{Stop}
 use Rattle.peeling.specs.declared.Stop.the-variants as stop
 use Rattle.room.specs.declared.Session.{Session}

@@ -5,13 +5,13 @@ ghost use lib.ListN.{length};
 use encoder::Started;
 use encoder::Taken;
 use hash::Fnv;
-use image::Reading;
-use image::Sealed;
 use layout::Sizes;
 use libc::STDIN_FILENO;
 use libc::STDOUT_FILENO;
 use packet::Key;
 use packet::Keyed;
+use reading::Reading;
+use sealing::Sealed;
 
 // Request 1: the hash of the payload.
 fn answer_hash(payload: &[u8]) {
@@ -246,7 +246,7 @@ fn call_encoder(p: &[u8], filter: &mut [u8], cells: &mut [u8], image: &mut [u8])
     let slot = fields::long_at(p, 8);
     start_at(p[18], z, filter, cells);
     take_packets(z, salt, p, filter, cells);
-    telling::say_next(seal_number(image::seal(z, salt, slot, filter, cells, image)));
+    telling::say_next(seal_number(sealing::seal(z, salt, slot, filter, cells, image)));
 }
 
 // Request 4 in buffers of the lengths asked for: what they hold before, the calls, what they hold after.
@@ -336,7 +336,7 @@ fn answer_read(p: &[u8]) {
     }
     let slot = fields::long_at(p, 0);
     let from = 4;
-    match image::read(&p[from..], slot) {
+    match reading::read(&p[from..], slot) {
         Reading::Image(z, salt) => say_image(z, salt),
         Reading::Length => say_refusal(1, 0),
         Reading::Check(n) => say_refusal(2, n),

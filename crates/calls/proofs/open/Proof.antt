@@ -45,7 +45,7 @@ use denote.Signature.{plain}
 use Rattle.records.proofs.Bodies.{part, landed}
 use Rattle.records.proofs.Loans.{MutOwn, ShrOwn, relent, reshown, copied, array-lent, array-shown, calls-lending, calls-plain}
 use Rattle.layout.specs.Sizes.{ipv4Layout}
-use Rattle.image.specs.Read.{readOf}
+use Rattle.reading.specs.Read.{readOf}
 use Rattle.opening.specs.Open.{refused}
 use Rattle.calls.proofs.Misfit.{open-misfit}
 use Rattle.calls.proofs.Rebuilt.{inside-zeros, few-taken, inside, calls-records}

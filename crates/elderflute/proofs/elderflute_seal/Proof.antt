@@ -1,7 +1,7 @@
 -- `elderflute::elderflute_seal` meets its contract.
 use mathlib.Core.Path.{ap, _∙_}
 use Rattle.layout.specs.declared.Sizes.{Sizes}
-use Rattle.image.specs.Seal as below
+use Rattle.sealing.specs.Seal as below
 use Rattle.elderflute.specs.Flowset.{sealing, sealCall}
 use borrow.Author.Needs.{needs}
 use Rattle.elderflute.proofs.elderflute_seal.Statement.{statement}

@@ -6,7 +6,7 @@ use lib.ListN.{length}
 use Rattle.laws.proofs.Lists.{length-part}
 use Rattle.layout.specs.Sizes.{blocks}
 use Rattle.layout.proofs.Ranges.{blocks-high, table-high}
-use Rattle.image.specs.Read.{cellsIn}
+use Rattle.reading.specs.Read.{cellsIn}
 use Rattle.opening.specs.Blocks.{fields}
 use Rattle.opening.proofs.Copies.{writtenTo, written-none, block-within, cells-turn, cells-all}
 use Rattle.opening.proofs.copy_cells.Statement.{statement}

@@ -2,7 +2,7 @@
 use mathlib.Core.Path.{refl, sym, _∙_}
 use borrow.Author.Needs.{needs}
 use Rattle.laws.proofs.Bools.{held, failed}
-use Rattle.image.proofs.Accepts.{accepted}
+use Rattle.reading.proofs.Accepts.{accepted}
 use Rattle.list.specs.Records.{records}
 use Rattle.table.specs.Table.{tab}
 use Rattle.room.specs.Memory.{memory}

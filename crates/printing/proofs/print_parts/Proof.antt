@@ -6,7 +6,7 @@ use lib.Seq.{length-take-le}
 use Rattle.layout.specs.declared.Layout.{Layout}
 use Rattle.layout.specs.Sizes.{Lays, ipv4Layout, tableCells}
 use Rattle.layout.proofs.Ranges.{lays-ipv4}
-use Rattle.image.specs.Read.{readOf}
+use Rattle.reading.specs.Read.{readOf}
 use Rattle.list.specs.Records.{records}
 use Rattle.table.specs.Table.{tab}
 use Rattle.room.specs.Memory.{Memory, memory}

@@ -1,0 +1,4 @@
+-- Laws of blocks that sealing and reading cite.
+pub mod Lengths
+pub mod Cells
+pub mod Outcomes

@@ -1,0 +1,3 @@
+-- Laws of the form of a block.
+pub mod Form
+pub mod Outcomes

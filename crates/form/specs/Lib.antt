@@ -1,0 +1,2 @@
+-- What the crate's contracts and theorems cite.
+pub mod Form
