@@ -74,3 +74,11 @@ takenBy NotInFilter = 0
 takenBy Listed = 0
 takenBy EmptyCell = 0
 takenBy TooMany = 0
+
+-- 01 'A session', Exchange: "Answers 9 to 12 are passed over, and those of 12 are counted in the answer"
+abbrev pub twelveBy : Handed → ℕ
+twelveBy Taken = 0
+twelveBy NotInFilter = 0
+twelveBy Listed = 0
+twelveBy EmptyCell = 0
+twelveBy TooMany = 1

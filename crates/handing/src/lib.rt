@@ -8,7 +8,7 @@ ghost use Rattle.hash.specs.Places.{cellOf};
 ghost use Rattle.list.specs.Records.{records};
 ghost use Rattle.table.specs.Table.{tab};
 ghost use Rattle.found.specs.Seen.{Covers};
-ghost use Rattle.handing.specs.Hand.{answerOf, handing, handOf, Hands};
+ghost use Rattle.handing.specs.Hand.{answerOf, handing, handOf, Hands, takenBy, twelveBy};
 use hash::Cells;
 use layout::Layout;
 use layout::Sizes;
@@ -105,4 +105,30 @@ pub fn hand(
         marks,
     );
     a
+}
+
+// How many flows more are listed after an answer.
+pub fn taken_by(h: Handed) -> usize
+    ensures { λ r. ⌜ (r ≡ takenBy h) × (r ≤ 1) ⌝ }
+{
+    match h {
+        Handed::Taken => 1,
+        Handed::NotInFilter => 0,
+        Handed::Listed => 0,
+        Handed::EmptyCell => 0,
+        Handed::TooMany => 0,
+    }
+}
+
+// How many of the answers 12 that an exchange counts it is.
+pub fn twelve_by(h: Handed) -> usize
+    ensures { λ r. ⌜ (r ≡ twelveBy h) × (r ≤ 1) ⌝ }
+{
+    match h {
+        Handed::Taken => 0,
+        Handed::NotInFilter => 0,
+        Handed::Listed => 0,
+        Handed::EmptyCell => 0,
+        Handed::TooMany => 1,
+    }
 }

@@ -25,9 +25,9 @@ use Rattle.test8.proofs.Answers.{passed}
 use Rattle.test8.proofs.Passed.{peeled-few, listed-few}
 use Rattle.handing.specs.declared.Handed.{Handed}
 use Rattle.handing.specs.declared.Handed.the-variants.{Taken, NotInFilter, Listed, EmptyCell, TooMany}
-use Rattle.handing.specs.Hand.{handOf, handNumber}
+use Rattle.handing.specs.Hand.{handOf, handNumber, twelveBy}
 use Rattle.parts.specs.Sides as sides
-use Rattle.parts.specs.Sides.{Side, settleSide, Given, given, twelveBy, handAt, handKeys, handList, withGiven}
+use Rattle.parts.specs.Sides.{Side, settleSide, Given, given, handAt, handKeys, handList, withGiven}
 use Rattle.exchange.specs.Exchange as lists
 use Rattle.exchange.specs.declared.Ending.the-variants as end
 use Rattle.exchange.specs.declared.Ending.{Ending}

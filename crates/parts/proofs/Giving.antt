@@ -20,9 +20,9 @@ use Rattle.list.specs.Records.{Records, records, keyAt, isHanded}
 use Rattle.table.specs.Table.{Tab}
 use Rattle.test8.specs.Test8.{handedIn}
 use Rattle.handing.specs.declared.Handed.{Handed}
-use Rattle.handing.specs.Hand.{Handing, handing, handOf, takenBy, Hands}
+use Rattle.handing.specs.Hand.{Handing, handing, handOf, takenBy, Hands, twelveBy}
 use Rattle.parts.specs.declared.Place.{Place}
-use Rattle.parts.specs.Sides.{Switch, switch, Given, given, twelveBy, afterHand, handAt, handKeys}
+use Rattle.parts.specs.Sides.{Switch, switch, Given, given, afterHand, handAt, handKeys}
 use Rattle.parts.specs.Areas.{between, laid, tableAt, listAt, withTable, withList, Inside, handPart, givenIn, givenUpto, giveEach, givePart, Gives}
 use Rattle.parts.proofs.Areas.{length-between, laid-same, table-same, list-same, Fills, fits-fill, table-in, list-in, seen-in, Alike, alike, inside-alike, laid-apart, handed-again}
 use Rattle.parts.proofs.Hands.{Ready, ready-hands, hand-onward, ready-upto, twelves-upto}

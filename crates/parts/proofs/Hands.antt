@@ -19,9 +19,9 @@ use Rattle.peeling.specs.Peel.{Fits}
 use Rattle.test8.specs.Test8.{handedIn}
 use Rattle.handing.specs.declared.Handed.{Handed}
 use Rattle.handing.specs.declared.Handed.the-variants.{Taken, NotInFilter, Listed, EmptyCell, TooMany}
-use Rattle.handing.specs.Hand.{Handing, handing, handOf, takenBy, handNumber, Hands}
+use Rattle.handing.specs.Hand.{Handing, handing, handOf, takenBy, handNumber, Hands, twelveBy}
 use Rattle.handing.proofs.Laws.{hand-kept, hand-fits, hand-handed}
-use Rattle.parts.specs.Sides.{Switch, switch, Given, given, twelveBy, afterHand, handAt, handKeys}
+use Rattle.parts.specs.Sides.{Switch, switch, Given, given, afterHand, handAt, handKeys}
 
 -- ---- one session, without the areas
 module _ (l : Layout) (z : Sizes) (salt : ℕ) (filter : List ℕ) where

@@ -15,9 +15,7 @@ use Rattle.peeling.specs.Peel.{Fits, listedAt}
 use Rattle.peeling.specs.declared.Stop.{Stop}
 use Rattle.test8.specs.Test8.{handedIn}
 use Rattle.settling.specs.Settle.{settleOf}
-use Rattle.handing.specs.declared.Handed.{Handed}
-use Rattle.handing.specs.declared.Handed.the-variants.{Taken, NotInFilter, Listed, EmptyCell, TooMany}
-use Rattle.handing.specs.Hand.{Handing, handOf, takenBy}
+use Rattle.handing.specs.Hand.{Handing, handOf, takenBy, twelveBy}
 
 -- what places a switch's keys
 pub record Switch : Type 0 where
@@ -66,14 +64,7 @@ pub record Given : Type 0 where
 abbrev pub given : ℕ → ℕ → Tab → Records → List ℕ → Given
 given n twelves t rs seen = record { listed = n; twelves = twelves; table = t; list = rs; seen = seen }
 
--- 01 'A session', Exchange: "Answers 9 to 12 are passed over, and those of 12 are counted in the answer"
-abbrev pub twelveBy : Handed → ℕ
-twelveBy Taken = 0
-twelveBy NotInFilter = 0
-twelveBy Listed = 0
-twelveBy EmptyCell = 0
-twelveBy TooMany = 1
-
+-- a key is handed over, and its answer counted
 abbrev pub afterHand : Given → Handing → Given
 afterHand g h = given (g .listed + takenBy (h .answer)) (g .twelves + twelveBy (h .answer)) (h .table) (h .list) (h .seen)
 

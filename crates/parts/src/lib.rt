@@ -11,8 +11,8 @@ ghost use Rattle.table.specs.Table.{tab, Fit};
 ghost use Rattle.test8.specs.Test8.{overListed, isSession, handedIn};
 ghost use Rattle.index.specs.Index.{Empty};
 ghost use Rattle.test8.specs.Given.{seenUpto};
-ghost use Rattle.handing.specs.Hand.{handing, takenBy, Hands};
-ghost use Rattle.parts.specs.Sides.{switch, Stands, twelveBy, given};
+ghost use Rattle.handing.specs.Hand.{handing, Hands};
+ghost use Rattle.parts.specs.Sides.{switch, Stands, given};
 ghost use Rattle.parts.specs.Areas.{
   Near,
   placeAfter,
@@ -263,30 +263,6 @@ fn hand_part(
     )
 }
 
-fn taken_by(h: Handed) -> usize
-    ensures { λ r. ⌜ (r ≡ takenBy h) × (r ≤ 1) ⌝ }
-{
-    match h {
-        Handed::Taken => 1,
-        Handed::NotInFilter => 0,
-        Handed::Listed => 0,
-        Handed::EmptyCell => 0,
-        Handed::TooMany => 0,
-    }
-}
-
-fn twelve_by(h: Handed) -> usize
-    ensures { λ r. ⌜ (r ≡ twelveBy h) × (r ≤ 1) ⌝ }
-{
-    match h {
-        Handed::Taken => 0,
-        Handed::NotInFilter => 0,
-        Handed::Listed => 0,
-        Handed::EmptyCell => 0,
-        Handed::TooMany => 1,
-    }
-}
-
 // Hands over the key that begins at `at` in the area of keys.
 fn hand_next(
     l: Layout,
@@ -402,9 +378,9 @@ fn give_each(
             flags,
             seen,
         );
-        listed += taken_by(h);
-        over += taken_by(h);
-        twelves += twelve_by(h);
+        listed += handing::taken_by(h);
+        over += handing::taken_by(h);
+        twelves += handing::twelve_by(h);
         at += w;
         i += 1;
     }

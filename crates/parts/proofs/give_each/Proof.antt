@@ -10,8 +10,8 @@ use Rattle.parts.proofs.give_each.Tie as tie
 use Rattle.parts.proofs.give_each.Reads as reads
 use Rattle.parts.proofs.give_each.Lts as lts
 use Rattle.parts.proofs.hand_next.Reads as hand-next-reads
-use Rattle.parts.proofs.taken_by.Reads as taken-by-reads
-use Rattle.parts.proofs.twelve_by.Reads as twelve-by-reads
+use Rattle.handing.proofs.taken_by.Reads as taken-by-reads
+use Rattle.handing.proofs.twelve_by.Reads as twelve-by-reads
 
 abbrev Inv-loop : tie.InvT-loop
 Inv-loop l z salt a e n handed from m filter xors₀ flows₀ unknowns₀ positions₀ marks₀ keys₀ counts₀ flags₀ seen₀ w listed₀ over₀ twelves₀ at₀ i₀ xors flows unknowns positions marks keys counts flags seen listed over twelves at i =
