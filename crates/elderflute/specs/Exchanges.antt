@@ -2,10 +2,11 @@
 use mathlib.Core.List.{List, [], _∷_}
 use Prim.Native.Nat.{ℕ}
 use Rattle.layout.specs.Sizes.{ipv4Layout}
+use Rattle.layout.specs.Numbers.{Returned}
 use Rattle.room.specs.Memory.{Memory}
 use Rattle.exchange.specs.declared.Exchanged.{Exchanged}
 use Rattle.exchange.specs.declared.Exchanged.the-variants as exchanged
-use Rattle.exchange.specs.Exchange.{exchangeOf, exchangeNumber}
+use Rattle.exchange.specs.Exchange.{exchangeOf, exchangeReturns, exchangeNumber}
 use Rattle.elderflute.specs.Numbers.{sessionOf}
 
 pub record ExchangeLeft : Type 0 where
@@ -24,17 +25,21 @@ pub record Exchanging : Type 0 where
 abbrev pub exchanging : ExchangeLeft → Memory → Exchanging
 exchanging left room = record { left = left; room = room }
 
--- the answers 12, the switch that stopped it (1 A, 2 B, 0 none), and its cell
-abbrev pub three : ℕ → ℕ → ℕ → List ℕ
-three twelves switch cell = twelves ∷ switch ∷ cell ∷ []
+-- what 01's number goes with: the answers 12, the switch that stopped it (1 A, 2 B, 0 none), and its cell
+abbrev pub valuesOf : Returned → List ℕ
+valuesOf r = r .twelves ∷ r .switch ∷ r .cell ∷ []
+
+-- an exchange that began: how many flows each then lists, and all that it returns
+abbrev pub began : Exchanged → ℕ → ℕ → ExchangeLeft
+began x a b = exchangeLeft (exchangeReturns x .number) a b (valuesOf (exchangeReturns x))
 
 -- 8, 15 and 16 keep all numbers; 13 and 14 name a switch and a cell, and the earlier steps stand
 abbrev pub exchangeLeaves : Exchanged → ℕ → ℕ → List ℕ → ExchangeLeft
-exchangeLeaves (exchanged.Done a b n) x y told = exchangeLeft (exchangeNumber (exchanged.Done a b n)) a b (three n 0 0)
-exchangeLeaves (exchanged.FullA c a b n) x y told = exchangeLeft (exchangeNumber (exchanged.FullA c a b n)) a b (three n 1 c)
-exchangeLeaves (exchanged.DamagedA c a b n) x y told = exchangeLeft (exchangeNumber (exchanged.DamagedA c a b n)) a b (three n 1 c)
-exchangeLeaves (exchanged.FullB c a b n) x y told = exchangeLeft (exchangeNumber (exchanged.FullB c a b n)) a b (three n 2 c)
-exchangeLeaves (exchanged.DamagedB c a b n) x y told = exchangeLeft (exchangeNumber (exchanged.DamagedB c a b n)) a b (three n 2 c)
+exchangeLeaves (exchanged.Done a b n) x y told = began (exchanged.Done a b n) a b
+exchangeLeaves (exchanged.FullA c a b n) x y told = began (exchanged.FullA c a b n) a b
+exchangeLeaves (exchanged.DamagedA c a b n) x y told = began (exchanged.DamagedA c a b n) a b
+exchangeLeaves (exchanged.FullB c a b n) x y told = began (exchanged.FullB c a b n) a b
+exchangeLeaves (exchanged.DamagedB c a b n) x y told = began (exchanged.DamagedB c a b n) a b
 exchangeLeaves exchanged.NotSession x y told = exchangeLeft (exchangeNumber exchanged.NotSession) x y told
 exchangeLeaves exchanged.BadRoom x y told = exchangeLeft (exchangeNumber exchanged.BadRoom) x y told
 exchangeLeaves exchanged.OtherSlot x y told = exchangeLeft (exchangeNumber exchanged.OtherSlot) x y told

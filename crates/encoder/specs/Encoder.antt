@@ -8,6 +8,7 @@ use Rattle.laws.specs.Upto.{anyUpto, eachUpto}
 use Rattle.layout.specs.declared.Layout.{Layout}
 use Rattle.layout.specs.declared.Sizes.{Sizes}
 use Rattle.layout.specs.Sizes.{inRange, ipv4Layout, filterBytes, cellBytes}
+use Rattle.layout.specs.Numbers.{Returned, only}
 use Rattle.hash.specs.Places.{cellOf}
 use Rattle.filter.specs.Filter.{isNew, withFlow}
 use Rattle.cell.specs.Cell.{flowCountAt, packetCountAt, takeAt}
@@ -41,11 +42,14 @@ startOf l z filter cells =
     (cond (not (roomsFit l z (length filter) (length cells))) (starting started.BadRoom filter cells)
     (starting started.Done (replicate (length filter) 0) (replicate (length cells) 0)))
 
--- 01's number for each answer
+-- 01's number and values for each answer
+abbrev pub startReturns : Started → Returned
+startReturns started.Done = only 0
+startReturns started.BadSizes = only 3
+startReturns started.BadRoom = only 16
+
 abbrev pub startNumber : Started → ℕ
-startNumber started.Done = 0
-startNumber started.BadSizes = 3
-startNumber started.BadRoom = 16
+startNumber a = startReturns a .number
 
 -- ---- a packet
 
@@ -87,10 +91,13 @@ packetOf z salt packet filter cells =
     (cond (not (roomsFit ipv4Layout z (length filter) (length cells))) (taking taken.BadRoom filter cells)
     (offer z salt (keyOf packet) filter cells))
 
--- 01's number for each answer
+-- 01's number and values for each answer
+abbrev pub takeReturns : Taken → Returned
+takeReturns taken.Done = only 0
+takeReturns taken.BadSizes = only 3
+takeReturns taken.BadRoom = only 16
+takeReturns taken.NoKey = only 6
+takeReturns taken.Full = only 7
+
 abbrev pub takeNumber : Taken → ℕ
-takeNumber taken.Done = 0
-takeNumber taken.BadSizes = 3
-takeNumber taken.BadRoom = 16
-takeNumber taken.NoKey = 6
-takeNumber taken.Full = 7
+takeNumber a = takeReturns a .number

@@ -8,6 +8,7 @@ use lib.ListN.{length, replicate, take, drop}
 use Rattle.layout.specs.declared.Layout.{Layout}
 use Rattle.layout.specs.declared.Sizes.{Sizes}
 use Rattle.layout.specs.Sizes.{Lays, Ranged, inRange, tableCells}
+use Rattle.layout.specs.Numbers.{Returned, only, withTwelves, withSwitch}
 use Rattle.list.specs.Records.{Records, records}
 use Rattle.table.specs.Table.{Tab, tab}
 use Rattle.peeling.specs.declared.Stop.{Stop}
@@ -232,16 +233,19 @@ afterTest l s t m tested.Passed =
 unfoldable pub exchangeOf : Layout → Session → Session → Memory → Exchanging
 exchangeOf l s t m = afterTest l s t m (exchangeTest l s t m)
 
--- 01's number for each answer
+-- 01's number and values for each answer
+abbrev pub exchangeReturns : Exchanged → Returned
+exchangeReturns (exchanged.Done a b twelves) = withTwelves 0 twelves
+exchangeReturns (exchanged.FullA c a b twelves) = withSwitch 13 1 c twelves
+exchangeReturns (exchanged.DamagedA c a b twelves) = withSwitch 14 1 c twelves
+exchangeReturns (exchanged.FullB c a b twelves) = withSwitch 13 2 c twelves
+exchangeReturns (exchanged.DamagedB c a b twelves) = withSwitch 14 2 c twelves
+exchangeReturns exchanged.NotSession = only 8
+exchangeReturns exchanged.OtherSlot = only 15
+exchangeReturns exchanged.BadRoom = only 16
+
 abbrev pub exchangeNumber : Exchanged → ℕ
-exchangeNumber (exchanged.Done a b twelves) = 0
-exchangeNumber (exchanged.FullA c a b twelves) = 13
-exchangeNumber (exchanged.DamagedA c a b twelves) = 14
-exchangeNumber (exchanged.FullB c a b twelves) = 13
-exchangeNumber (exchanged.DamagedB c a b twelves) = 14
-exchangeNumber exchanged.NotSession = 8
-exchangeNumber exchanged.OtherSlot = 15
-exchangeNumber exchanged.BadRoom = 16
+exchangeNumber a = exchangeReturns a .number
 
 -- ---- what the code needs
 -- areas of the lengths that a place gives

@@ -1,6 +1,6 @@
 -- A bit set is set, no other bit changes, and the flow's bits in the code's list are 01's.
 use mathlib.Core.Path.{_≡_, refl, sym, ap, _∙_}
-use mathlib.Core.Bool.{true, false, not}
+use mathlib.Core.Bool.{Bool, true, false, not, _||_}
 use mathlib.Core.List.{List}
 use Prim.Native.Nat.{ℕ, zero, suc, _+_, _-_, _*_, _/_, _%_, _^_, _<_}
 use native.Mathlib.Nat.{zero-mul}
@@ -11,18 +11,18 @@ use lib.Dec.{eqb}
 use lib.Pow.{pow-pos, pow-add, shl-shr}
 use lib.ListN.{length, getD, set, length-set}
 use lib.Seq.{getD-set-same, getD-set-other}
-use borrow.Author.Tests.{ne-eqb}
+use borrow.Author.Tests.{eq-eqb, ne-eqb}
 use Rattle.laws.specs.Digit.{digit}
-use Rattle.laws.specs.Upto.{eachUpto}
-use Rattle.laws.proofs.Bools.{not-f}
+use Rattle.laws.specs.Upto.{anyUpto, eachUpto}
+use Rattle.laws.proofs.Bools.{not-f, or-l, or-r, or-f}
 use Rattle.laws.proofs.Digits.{digit-or, digit-pow, digit-pow-other, digit-lt, and-pow}
-use Rattle.laws.proofs.Upto.{any-same, any-no, any-none, each-same, each-keeps}
+use Rattle.laws.proofs.Upto.{any-same, any-yes, any-no, any-none, each-same, each-keeps}
 use Rattle.layout.specs.declared.Sizes.{Sizes}
 use Rattle.layout.specs.Sizes.{Ranged, filterBytes}
 use Rattle.layout.proofs.Ranges.{bit-within}
 use Rattle.hash.specs.Places.{bitOf, bitsOf}
 use Rattle.hash.proofs.Apart.{bit-lt, bits-at}
-use Rattle.filter.specs.Filter.{mask, isSet, withBit, anyClear, withBits, InFilter, isNew, withFlow}
+use Rattle.filter.specs.Filter.{mask, isSet, withBit, anyClear, withBits, InFilter, isNew, withFlow, hasBit}
 
 -- the mask is a power of two, so it picks one digit
 mask-pow : (n : ℕ) → mask n ≡ 2 ^ (7 - n % 8)
@@ -79,10 +79,6 @@ module _ (filter : List ℕ) (n : ℕ) (inside : n / 8 < length filter) where
     | no e ↦ ap (λ y. digit y (at m)) (unfold withBit in getD-set-other filter (n / 8) (m / 8) (bitOr (getD filter (n / 8) 0) (mask n)) 0 e)
   ])
 
-  -- a bit that was set stays set
-  pub set-stays : (m : ℕ) → isSet filter m ≡ true → isSet (withBit filter n) m ≡ true
-  set-stays m h = elim (ℕ-discrete m n) [ yes e ↦ rw e set-here | no e ↦ set-other m e ∙ h ]
-
 -- ---- the bits of a flow
 module _ (z : Sizes) (r : Ranged z) (salt : ℕ) where
   -- the code's list of bits is 01's
@@ -112,36 +108,40 @@ module _ (z : Sizes) (r : Ranged z) (salt : ℕ) where
     inside : (key : List ℕ) (i : ℕ) (f : List ℕ) → length f ≡ length filter → bitOf z salt key i / 8 < length f
     inside key i f e = rw (e, sized) (bit-within z (bitOf z salt key i) (bit-lt z r salt key i))
 
-    -- a bit that was set stays set
-    pub flow-stays : (key : List ℕ) (m : ℕ) → isSet filter m ≡ true → isSet (withFlow z salt filter key) m ≡ true
-    unfolding withFlow
-    flow-stays key m h =
-        each-keeps (λ f. (length f ≡ length filter) × (isSet f m ≡ true)) (z .kf) (λ i f. withBit f (bitOf z salt key i)) filter (refl, h)
-        (λ i f l p. (length-with f (bitOf z salt key i) ∙ p .0, set-stays f (bitOf z salt key i) (inside key i f (p .0)) m (p .1))) .1
-
-    flow-sets : (key : List ℕ) (n i : ℕ) → i < n → isSet (eachUpto n (λ j f. withBit f (bitOf z salt key j)) filter) (bitOf z salt key i) ≡ true
-    unfolding eachUpto
-    flow-sets key zero i h = absurd (omega arith)
-    flow-sets key (suc n) i h =
-        let f = eachUpto n (λ j g. withBit g (bitOf z salt key j)) filter in
+    -- with the first n of the flow's bits set, a bit is 1 exactly when it was or is one of these
+    each-bits : (key : List ℕ) (n m : ℕ)
+        → isSet (eachUpto n (λ i f. withBit f (bitOf z salt key i)) filter) m ≡ (isSet filter m || anyUpto n (λ i. eqb (bitOf z salt key i) m))
+    unfolding eachUpto anyUpto
+    each-bits key zero m = sym (or-f (isSet filter m))
+    each-bits key (suc n) m =
+        let f = eachUpto n (λ i g. withBit g (bitOf z salt key i)) filter in
+        let some : ℕ → Bool = λ a. anyUpto n (λ i. eqb (bitOf z salt key i) a) in
+        let b = bitOf z salt key n in
         let e : length f ≡ length filter =
-        each-keeps (λ g. length g ≡ length filter) n (λ j g. withBit g (bitOf z salt key j)) filter refl
-        (λ j g l q. length-with g (bitOf z salt key j) ∙ q) in
-        elim (ℕ-discrete i n) [
-          | yes q ↦ rw q (set-here f (bitOf z salt key n) (inside key n f e))
-          | no q ↦ set-stays f (bitOf z salt key n) (inside key n f e) (bitOf z salt key i) (flow-sets key n i (omega arith))
+        each-keeps (λ g. length g ≡ length filter) n (λ i g. withBit g (bitOf z salt key i)) filter refl
+        (λ i g l q. length-with g (bitOf z salt key i) ∙ q) in
+        elim (ℕ-discrete m b) [
+          | yes q ↦ rw (q, eq-eqb b b refl) (set-here f b (inside key n f e) ∙ sym (or-r (isSet filter b) (some b || true) (or-r (some b) true refl)))
+          | no q ↦ rw (ne-eqb b m (λ w. q (sym w)), or-f (some m)) (set-other f b (inside key n f e) m q ∙ each-bits key n m)
         ]
+
+    -- a new flow sets its bits and no other: a bit is 1 exactly when it was or is one of the flow's
+    pub flow-bits : (key : List ℕ) (m : ℕ) → isSet (withFlow z salt filter key) m ≡ (isSet filter m || hasBit z salt key m)
+    unfolding withFlow hasBit
+    flow-bits key m = each-bits key (z .kf) m
 
     -- a flow that was taken is not new any more, and none becomes new again
     pub taken-old : (key : List ℕ) → isNew z salt (withFlow z salt filter key) key ≡ false
-    unfolding isNew withFlow
+    unfolding isNew hasBit
     taken-old key =
-        any-no (z .kf) (λ i. not (isSet (eachUpto (z .kf) (λ j f. withBit f (bitOf z salt key j)) filter) (bitOf z salt key i)))
-        (λ i h. ap not (flow-sets key (z .kf) i h))
+        any-no (z .kf) (λ i. not (isSet (withFlow z salt filter key) (bitOf z salt key i)))
+        (λ i h. let b = bitOf z salt key i in
+        ap not (flow-bits key b ∙ or-r (isSet filter b) (hasBit z salt key b) (any-yes (z .kf) (λ j. eqb (bitOf z salt key j) b) i h (eq-eqb b b refl))))
 
     pub old-stays : (key other : List ℕ) → isNew z salt filter key ≡ false → isNew z salt (withFlow z salt filter other) key ≡ false
     unfolding isNew
     old-stays key other h =
         any-no (z .kf) (λ i. not (isSet (withFlow z salt filter other) (bitOf z salt key i)))
-        (λ i l. ap not (flow-stays other (bitOf z salt key i)
-        (not-f (isSet filter (bitOf z salt key i)) (any-none (z .kf) (λ j. not (isSet filter (bitOf z salt key j))) h i l))))
+        (λ i l. let b = bitOf z salt key i in
+        ap not (flow-bits other b ∙ or-l (isSet filter b) (hasBit z salt other b)
+        (not-f (isSet filter b) (any-none (z .kf) (λ j. not (isSet filter (bitOf z salt key j))) h i l))))

@@ -39,3 +39,7 @@ isNew z salt filter key = anyUpto (z .kf) (λ i. not (isSet filter (bitOf z salt
 -- 01 'Taking packets': "A new flow sets its bits"
 unfoldable pub withFlow : Sizes → ℕ → List ℕ → List ℕ → List ℕ
 withFlow z salt filter key = eachUpto (z .kf) (λ i f. withBit f (bitOf z salt key i)) filter
+
+-- 01 'Taking packets': "one of its kf filter bits": filter bit n is one of a flow's
+unfoldable pub hasBit : Sizes → ℕ → List ℕ → ℕ → Bool
+hasBit z salt key n = anyUpto (z .kf) (λ i. eqb (bitOf z salt key i) n)

@@ -1,7 +1,7 @@
--- What a packet taken keeps: lengths, bytes, the zero byte of each cell; and a flow once taken is old.
+-- What a packet taken keeps: lengths, bytes, the zero byte of each cell; it sets its flow's bits, and a flow once taken is old.
 use mathlib.Core.Path.{_≡_, refl, sym, ap, _∙_}
-use mathlib.Core.Bool.{Bool, true, false, cond}
-use mathlib.Core.List.{List}
+use mathlib.Core.Bool.{Bool, true, false, cond, _&&_}
+use mathlib.Core.List.{List, [], _∷_}
 use mathlib.Core.Logic.{inl, inr}
 use Prim.Native.Nat.{ℕ, _+_, _*_, _/_, _%_, _^_}
 use native.Mathlib.Nat.{div-le-self}
@@ -10,7 +10,7 @@ use lib.Bits.{bitOr, or-lt}
 use lib.ListN.{length, getD, take, drop}
 use Rattle.laws.specs.Xor.{xorBytes}
 use Rattle.laws.specs.BigEndian.{Bytes, bytesOf}
-use Rattle.laws.proofs.Bools.{split, or-e}
+use Rattle.laws.proofs.Bools.{split, or-e, or-f}
 use Rattle.laws.proofs.BigEndian.{bytes-are-bytes, bytes-take, bytes-drop, bytes-set, bytes-sets, bytes-xor}
 use Rattle.laws.proofs.Upto.{each-keeps}
 use Rattle.layout.specs.declared.Layout.{Layout}
@@ -19,8 +19,8 @@ use Rattle.layout.specs.Sizes.{Lays, Ranged, cellBytes, filterBytes}
 use Rattle.hash.specs.Places.{cellOf, bitOf}
 use Rattle.hash.proofs.Apart.{cell-within}
 use Rattle.fields.specs.Field.{withField}
-use Rattle.filter.specs.Filter.{mask, withBit, isNew, withFlow}
-use Rattle.filter.proofs.Held.{length-flow, taken-old, old-stays}
+use Rattle.filter.specs.Filter.{mask, isSet, withBit, isNew, withFlow, hasBit}
+use Rattle.filter.proofs.Held.{length-flow, flow-bits, taken-old, old-stays}
 use Rattle.cell.specs.Cell.{flowXorAt, withKey, addFlow, addPacket, takeAt}
 use Rattle.cell.proofs.Steps.{length-take, take-zero}
 use Rattle.encoder.specs.Encoder.{takeIn, offerKey}
@@ -29,7 +29,7 @@ use Rattle.theory.specs.Encode.{takePacket, addFlow as joined}
 use Rattle.theory.proofs.Flow.{same-eq}
 use Rattle.theory.proofs.Packets.{among-add}
 use Rattle.meaning.specs.View.{tableOf, placementOf}
-use Rattle.meaning.specs.Meaning.{Memory, Lent, leaves, isTaken}
+use Rattle.meaning.specs.Meaning.{Memory, Lent, leaves, isTaken, takenBy, newFlowBit, Sets}
 use Rattle.meaning.proofs.Packet.{cell-inside, length-in, filter-after, cells-after, packet-taken}
 
 -- ---- bytes
@@ -91,11 +91,12 @@ Old z salt F filter = (k : Key) → among k F ≡ true → isNew z salt filter k
 pub record Next (l : Layout) (z : Sizes) (salt : ℕ) (key : Key) (m next : Memory) : Type 0 where
   pub table : tableOf l z (next .cells) ≡ takePacket (placementOf l z salt) (isNew z salt (m .filter) key) key (tableOf l z (m .cells))
   pub lent : Lent l z next
-  pub zero : (c : ℕ) → getD (next .cells) (c * l .cell + l .key) 0 ≡ getD (m .cells) (c * l .cell + l .key) 0
+  pub sets : Sets l z salt m (takenBy z salt m key ∷ []) next
   pub old : (F : List Key) → Old z salt F (m .filter) → Old z salt (joined F key) (next .filter)
 
-module _ (l : Layout) (z : Sizes) (lays : Lays l) (r : Ranged z) (salt : ℕ) (key : Key) (sized : length key ≡ l .key) (are-bytes : Bytes key)
-    (m : Memory) (lent : Lent l z m) (taken : isTaken (offerKey l z salt key (m .filter) (m .cells)) ≡ true) where
+module _ (l : Layout) (z : Sizes) (lays : Lays l) (r : Ranged z) (salt : ℕ) (key : Key) (sized : length key ≡ l .key)
+    (m : Memory) (filter-fits : length (m .filter) ≡ filterBytes z) (cells-fit : length (m .cells) ≡ cellBytes l z)
+    (taken : isTaken (offerKey l z salt key (m .filter) (m .cells)) ≡ true) where
   abbrev new : Bool
   new = isNew z salt (m .filter) key
 
@@ -108,32 +109,44 @@ module _ (l : Layout) (z : Sizes) (lays : Lays l) (r : Ranged z) (salt : ℕ) (k
   cells-are : next .cells ≡ takeIn l z salt new key (m .cells)
   cells-are = cells-after l z salt key (m .filter) (m .cells) taken
 
+  -- its bits are set where its flow is new, and the zero bytes stay
+  pub offer-sets : Sets l z salt m (takenBy z salt m key ∷ []) next
+  unfolding newFlowBit
+  offer-sets = record {
+    filter-bits = λ n. rw (filter-is, or-f (new && hasBit z salt key n)) (elim (split new) [
+      | inl q ↦ rw q (flow-bits z r salt (m .filter) filter-fits key n)
+      | inr q ↦ rw q (sym (or-f (isSet (m .filter) n)))
+    ]);
+    zero-stays = λ c. rw cells-are (in-zero l z salt new key (m .cells) lays r sized cells-fit c);
+  }
+
   -- what holds of the filter as it was, and with the flow's bits set
   filter-keeps : (P : List ℕ → Type 0) → P (m .filter) → P (withFlow z salt (m .filter) key) → P (next .filter)
   filter-keeps P old set = rw filter-is (elim (split new) [ inl n ↦ rw n set | inr n ↦ rw n old ])
 
-  next-lent : Lent l z next
-  next-lent = record {
-    filter-length = filter-keeps (λ f. length f ≡ filterBytes z) (lent .filter-length) (length-flow z r salt (m .filter) key ∙ lent .filter-length);
-    cells-length = ap length cells-are ∙ length-in l z salt new key (m .cells) ∙ lent .cells-length;
-    filter-bytes = filter-keeps Bytes (lent .filter-bytes) (flow-bytes z salt (m .filter) key (lent .filter-bytes));
-    cells-bytes = rw cells-are (in-bytes l z salt new key (m .cells) (lent .cells-bytes) are-bytes);
-  }
+  module _ (are-bytes : Bytes key) (lent : Lent l z m) where
+    next-lent : Lent l z next
+    next-lent = record {
+      filter-length = filter-keeps (λ f. length f ≡ filterBytes z) (lent .filter-length) (length-flow z r salt (m .filter) key ∙ lent .filter-length);
+      cells-length = ap length cells-are ∙ length-in l z salt new key (m .cells) ∙ lent .cells-length;
+      filter-bytes = filter-keeps Bytes (lent .filter-bytes) (flow-bytes z salt (m .filter) key (lent .filter-bytes));
+      cells-bytes = rw cells-are (in-bytes l z salt new key (m .cells) (lent .cells-bytes) are-bytes);
+    }
 
-  -- a flow that is old stays old, and the packet's is old now
-  stays-old : (k : Key) → isNew z salt (m .filter) k ≡ false → isNew z salt (next .filter) k ≡ false
-  stays-old k h = filter-keeps (λ f. isNew z salt f k ≡ false) h (old-stays z r salt (m .filter) (lent .filter-length) k key h)
+    -- a flow that is old stays old, and the packet's is old now
+    stays-old : (k : Key) → isNew z salt (m .filter) k ≡ false → isNew z salt (next .filter) k ≡ false
+    stays-old k h = filter-keeps (λ f. isNew z salt f k ≡ false) h (old-stays z r salt (m .filter) (lent .filter-length) k key h)
 
-  now-old : isNew z salt (next .filter) key ≡ false
-  now-old = rw filter-is (elim (split new) [ inl n ↦ rw n (taken-old z r salt (m .filter) (lent .filter-length) key) | inr n ↦ rw n n ])
+    now-old : isNew z salt (next .filter) key ≡ false
+    now-old = rw filter-is (elim (split new) [ inl n ↦ rw n (taken-old z r salt (m .filter) (lent .filter-length) key) | inr n ↦ rw n n ])
 
-  pub offer-next : Next l z salt key m next
-  offer-next = record {
-    table = packet-taken l z salt key (m .filter) (m .cells) taken lays r sized (lent .cells-length) (lent .cells-bytes);
-    lent = next-lent;
-    zero = λ c. rw cells-are (in-zero l z salt new key (m .cells) lays r sized (lent .cells-length) c);
-    old = λ F old k h. elim (or-e (among k F) (sameKey k key) (sym (among-add k F key) ∙ h)) [
-      | inl p ↦ stays-old k (old k p)
-      | inr p ↦ rw (same-eq k key p) now-old
-    ];
-  }
+    pub offer-next : Next l z salt key m next
+    offer-next = record {
+      table = packet-taken l z salt key (m .filter) (m .cells) taken lays r sized (lent .cells-length) (lent .cells-bytes);
+      lent = next-lent;
+      sets = offer-sets;
+      old = λ F old k h. elim (or-e (among k F) (sameKey k key) (sym (among-add k F key) ∙ h)) [
+        | inl p ↦ stays-old k (old k p)
+        | inr p ↦ rw (same-eq k key p) now-old
+      ];
+    }

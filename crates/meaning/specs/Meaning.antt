@@ -1,6 +1,6 @@
 -- Packets offered one after the other from a start, and those taken: 01 'Taking packets'.
 use mathlib.Core.Path.{_≡_}
-use mathlib.Core.Bool.{Bool, true, false, cond}
+use mathlib.Core.Bool.{Bool, true, false, cond, _&&_, _||_}
 use mathlib.Core.List.{List, [], _∷_}
 use Prim.Native.Nat.{ℕ, _+_, _*_}
 use lib.Dec.{eqb}
@@ -10,7 +10,7 @@ use Rattle.laws.specs.Upto.{allUpto}
 use Rattle.layout.specs.declared.Layout.{Layout}
 use Rattle.layout.specs.declared.Sizes.{Sizes}
 use Rattle.layout.specs.Sizes.{Ranged, ipv4Layout, filterBytes, tableCells, cellBytes}
-use Rattle.filter.specs.Filter.{isNew}
+use Rattle.filter.specs.Filter.{isSet, isNew, hasBit}
 use Rattle.packet.specs.Packet.{keyIn}
 use Rattle.packet.specs.Key.{keyBytes}
 use Rattle.encoder.specs.Encoder.{Taking, takeNumber, offerKey, packetOf}
@@ -52,12 +52,28 @@ unfoldable pub offerAll : {A : Type 0} → Call A → List A → Memory → Memo
 offerAll call [] m = m
 offerAll call (a ∷ later) m = offerAll call later (leaves (call a m))
 
+-- a packet of a key, taken by this memory: "A flow is new when one of its kf filter bits is 0"
+abbrev pub takenBy : Sizes → ℕ → Memory → Key → Taken
+takenBy z salt m key = record { key = key; new = isNew z salt (m .filter) key }
+
 -- 01 'Taking packets': "A refused packet is not a packet taken": the others, oldest first, each with its key and whether its flow was new then
 unfoldable pub takenOf : {A : Type 0} → Sizes → ℕ → Call A → (A → Key) → List A → Memory → List Taken
 takenOf z salt call keyOf [] m = []
 takenOf z salt call keyOf (a ∷ later) m =
     let rest = takenOf z salt call keyOf later (leaves (call a m)) in
-    cond (isTaken (call a m)) (record { key = keyOf a; new = isNew z salt (m .filter) (keyOf a) } ∷ rest) rest
+    cond (isTaken (call a m)) (takenBy z salt m (keyOf a) ∷ rest) rest
+
+-- 01 'Taking packets': "A new flow sets its bits": filter bit n is one of a taken new flow's bits
+unfoldable pub newFlowBit : Sizes → ℕ → List Taken → ℕ → Bool
+newFlowBit z salt [] n = false
+newFlowBit z salt (p ∷ later) n = (p .new && hasBit z salt (p .key) n) || newFlowBit z salt later n
+
+-- what these packets taken leave of any memory, beside what they add in their flows' cells
+pub record Sets (l : Layout) (z : Sizes) (salt : ℕ) (m : Memory) (taken : List Taken) (after : Memory) : Type 0 where
+  -- 01 'Taking packets': "A new flow sets its bits", and no other bit changes: a bit is 1 exactly when it was or is one of a taken new flow's
+  pub filter-bits : (n : ℕ) → isSet (after .filter) n ≡ (isSet (m .filter) n || newFlowBit z salt taken n)
+  -- 01 'Blocks of 512 bytes': "FlowXOR 13, zero 1": the zero byte of cell c stays as it was
+  pub zero-stays : (c : ℕ) → getD (after .cells) (c * l .cell + l .key) 0 ≡ getD (m .cells) (c * l .cell + l .key) 0
 
 -- ---- keys, in any layout
 -- a key of the layout's length
@@ -107,6 +123,8 @@ pub record Means (l : Layout) (z : Sizes) (salt : ℕ) (m : Memory) (taken : Lis
   -- where the filter never took a new flow for an old one, the cells encode exactly the flows taken, each with its packets
   pub clean-memory : NeverMistaken taken → tableOf l z (m .cells) ≡ encode (l .key) (placementOf l z salt) (flowsOf taken) (packetsOf taken)
   pub flowset : FlowSet (l .key) (flowsOf taken) (packetsOf taken)
+  -- 01 'Taking packets': "A new flow sets its bits": a filter bit is 1 exactly when it is one of a taken new flow's
+  pub filter-holds : (n : ℕ) → isSet (m .filter) n ≡ newFlowBit z salt taken n
   -- every flow taken passes the filter
   pub counted-bits : (k : Key) → among k (flowsOf taken) ≡ true → isNew z salt (m .filter) k ≡ false
   -- the lengths are the sizes', and the zero byte of each cell is zero

@@ -7,6 +7,7 @@ use Rattle.laws.specs.Upto.{eachUpto, listUpto, joinUpto}
 use Rattle.layout.specs.declared.Layout.{Layout}
 use Rattle.layout.specs.declared.Sizes.{Sizes}
 use Rattle.layout.specs.Sizes.{tableCells}
+use Rattle.layout.specs.Numbers.{Returned, only, withBlock}
 use Rattle.cell.specs.Cell.{flowXorAt, flowCountAt, packetCountAt}
 use Rattle.reading.specs.declared.Reading.{Reading}
 use Rattle.reading.specs.declared.Reading.the-variants as read
@@ -74,21 +75,18 @@ openRead l slot image m read.Stale = opening Stale m
 unfoldable pub openOf : Layout → List ℕ → ℕ → Memory → Opening
 openOf l image slot m = openRead l slot image m (readOf l image slot)
 
--- 01's number and block for each answer
+-- 01's number and values for each answer
+abbrev pub openReturns : Opened → Returned
+openReturns (Open s) = only 0
+openReturns Length = only 1
+openReturns (Check n) = withBlock 2 n
+openReturns (Form n) = withBlock 3 n
+openReturns (Mixed n) = withBlock 4 n
+openReturns Stale = only 5
+openReturns BadRoom = only 16
+
 abbrev pub openNumber : Opened → ℕ
-openNumber (Open s) = 0
-openNumber Length = 1
-openNumber (Check n) = 2
-openNumber (Form n) = 3
-openNumber (Mixed n) = 4
-openNumber Stale = 5
-openNumber BadRoom = 16
+openNumber a = openReturns a .number
 
 abbrev pub openBlock : Opened → ℕ
-openBlock (Open s) = 0
-openBlock Length = 0
-openBlock (Check n) = n
-openBlock (Form n) = n
-openBlock (Mixed n) = n
-openBlock Stale = 0
-openBlock BadRoom = 0
+openBlock a = openReturns a .block

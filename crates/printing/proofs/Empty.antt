@@ -7,11 +7,11 @@ use native.Mathlib.Omega.{arith}
 use borrow.Author.Tests.{eq-eqb, le-ltb}
 use lib.Bits.{bitAnd}
 use lib.Dec.{ltb}
-use lib.ListN.{length, getD, set, replicate, length-replicate, length-append}
-use lib.Seq.{set-getD, take-at, drop-at}
+use lib.ListN.{length, getD, set, replicate, length-replicate}
+use lib.Seq.{set-getD}
 use Rattle.laws.specs.BigEndian.{bytesOf, numberOf}
 use Rattle.laws.specs.Upto.{joinUpto, numberUpto}
-use Rattle.laws.proofs.BigEndian.{length-bytes, number-bytes, number-zeros}
+use Rattle.laws.proofs.BigEndian.{number-zeros}
 use Rattle.laws.proofs.Lists.{zero-at, part-zeros}
 use Rattle.laws.proofs.Lowest.{number-none}
 use Rattle.laws.proofs.Rows.{row-within}
@@ -54,6 +54,7 @@ use Rattle.session.proofs.Laws.{settle-passes}
 use Rattle.lines.specs.Text.{headLine}
 use Rattle.lines.proofs.Example.{example}
 use Rattle.printing.specs.Print.{listedLines, settledLines, sessionLines, readLines, imageLines, printed}
+use Rattle.printing.proofs.Input.{slot-image}
 
 abbrev zeros : ℕ → List ℕ
 zeros n = replicate n 0
@@ -177,12 +178,8 @@ module _ (z : Sizes) (r : Ranged z) where
         ∙ ap (headLine slot salt) (empty-report (opened .table .flows) (opened .list .flags) (λ c h. flows-zero c (omega (arith, flows-long))))
 
     pub empty-prints : printed (bytesOf 4 slot ++ image) ≡ headLine slot salt emptyReport
-    unfolding printed imageLines readLines field
-    empty-prints =
-        let e = length-bytes 4 slot in
-        let long = le-ltb (length (bytesOf 4 slot ++ image)) 4 (omega (arith, length-append (bytesOf 4 slot) image)) in
-        let wanted = ap numberOf (take-at (bytesOf 4 slot) image 4 e) ∙ number-bytes 4 slot q in
-        rw (long, wanted, drop-at (bytesOf 4 slot) image 4 e, back .0) lines
+    unfolding imageLines readLines
+    empty-prints = slot-image slot image q ∙ rw (back .0) lines
 
 -- slot 7, salt 9: `7 9 0 0 0 whole` and a line feed
 pub empty-example : (z : Sizes) → Ranged z

@@ -8,6 +8,7 @@ use Rattle.laws.specs.Upto.{joinUpto}
 use Rattle.layout.specs.declared.Layout.{Layout}
 use Rattle.layout.specs.declared.Sizes.{Sizes}
 use Rattle.layout.specs.Sizes.{inRange, blocks}
+use Rattle.layout.specs.Numbers.{Returned, only, withBlock}
 use Rattle.fields.specs.Field.{field}
 use Rattle.hash.specs.Fnv.{fnv}
 use Rattle.block.specs.Block.{blockAt}
@@ -52,19 +53,17 @@ filterIn z image = joinUpto (z .f) (λ n. take 480 (drop 16 (blockAt image n)))
 unfoldable pub cellsIn : Layout → Sizes → List ℕ → List ℕ
 cellsIn l z image = joinUpto (z .k * z .q) (λ n. take (l .cells * l .cell) (drop 16 (blockAt image (z .f + n))))
 
--- 01's number and block for each answer
+-- 01's number and values for each answer
+abbrev pub readReturns : Reading → Returned
+readReturns (Image z salt) = only 0
+readReturns Length = only 1
+readReturns (Check n) = withBlock 2 n
+readReturns (Form n) = withBlock 3 n
+readReturns (Mixed n) = withBlock 4 n
+readReturns Stale = only 5
+
 abbrev pub readNumber : Reading → ℕ
-readNumber (Image z salt) = 0
-readNumber Length = 1
-readNumber (Check n) = 2
-readNumber (Form n) = 3
-readNumber (Mixed n) = 4
-readNumber Stale = 5
+readNumber a = readReturns a .number
 
 abbrev pub readBlock : Reading → ℕ
-readBlock (Image z salt) = 0
-readBlock Length = 0
-readBlock (Check n) = n
-readBlock (Form n) = n
-readBlock (Mixed n) = n
-readBlock Stale = 0
+readBlock a = readReturns a .block

@@ -8,6 +8,7 @@ use lib.ListN.{length}
 use Rattle.layout.specs.declared.Layout.{Layout}
 use Rattle.layout.specs.declared.Sizes.{Sizes}
 use Rattle.layout.specs.Sizes.{inRange, Ranged, tableCells, cellBytes, filterBytes, blocks}
+use Rattle.layout.specs.Numbers.{Returned, only}
 use Rattle.block.specs.Block.{imageOf, zeroBytes}
 use Rattle.sealing.specs.declared.Sealed.{Sealed}
 use Rattle.sealing.specs.declared.Sealed.the-variants.{Done, BadSizes, BadRoom, BadZero}
@@ -38,9 +39,12 @@ sealOf l z salt slot filter cells image =
     (cond (not (zeroBytes l (tableCells l z) cells)) (sealing BadZero image)
     (sealing Done (imageOf l z salt slot filter cells))))
 
--- 01's number for each answer; its block is 0 in all
+-- 01's number and values for each answer; its block is 0 in all
+abbrev pub sealReturns : Sealed → Returned
+sealReturns Done = only 0
+sealReturns BadSizes = only 3
+sealReturns BadRoom = only 16
+sealReturns BadZero = only 3
+
 abbrev pub sealNumber : Sealed → ℕ
-sealNumber Done = 0
-sealNumber BadSizes = 3
-sealNumber BadRoom = 16
-sealNumber BadZero = 3
+sealNumber a = sealReturns a .number

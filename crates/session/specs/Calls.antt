@@ -3,6 +3,7 @@ use mathlib.Core.List.{List}
 use Prim.Native.Nat.{ℕ, _+_}
 use lib.ListN.{replicate}
 use Rattle.layout.specs.declared.Layout.{Layout}
+use Rattle.layout.specs.Numbers.{Returned, only, withCell}
 use Rattle.test8.specs.Given.{seenUpto}
 use Rattle.room.specs.declared.Session.{Session}
 use Rattle.room.specs.Memory.{Memory, memory}
@@ -57,15 +58,18 @@ handOver l s key m =
     tested l s m (handingTo over.NotSession m) (handingTo over.BadRoom m)
     (handLeaves s m (handing.handOf l (s .sizes) (s .salt) (s .listed) key (m .filter) (m .table) (m .list) (indexOf l s m)))
 
--- 01's number for each answer
+-- 01's number and values for each answer
+abbrev pub handOverReturns : HandOver → Returned
+handOverReturns (over.Done n) = only 0
+handOverReturns over.NotSession = only 8
+handOverReturns over.NotInFilter = only 9
+handOverReturns over.Listed = only 10
+handOverReturns over.EmptyCell = only 11
+handOverReturns over.TooMany = only 12
+handOverReturns over.BadRoom = only 16
+
 abbrev pub handOverNumber : HandOver → ℕ
-handOverNumber (over.Done n) = 0
-handOverNumber over.NotSession = 8
-handOverNumber over.NotInFilter = 9
-handOverNumber over.Listed = 10
-handOverNumber over.EmptyCell = 11
-handOverNumber over.TooMany = 12
-handOverNumber over.BadRoom = 16
+handOverNumber a = handOverReturns a .number
 
 -- ---- settling
 pub record Settling : Type 0 where
@@ -89,13 +93,16 @@ settleOf l s m =
     tested l s m (settlingTo settled.NotSession m) (settlingTo settled.BadRoom m)
     (settleLeaves m (settling.settleOf l (s .sizes) (s .salt) (s .listed) (m .table) (m .packets) (m .list) (indexOf l s m)))
 
--- 01's number and cell for each answer
+-- 01's number and values for each answer
+abbrev pub settleReturns : Settled → Returned
+settleReturns (settled.Done n) = only 0
+settleReturns (settled.Full n c) = withCell 13 c
+settleReturns (settled.Damaged n c) = withCell 14 c
+settleReturns settled.NotSession = only 8
+settleReturns settled.BadRoom = only 16
+
 abbrev pub settleNumber : Settled → ℕ
-settleNumber (settled.Done n) = 0
-settleNumber (settled.Full n c) = 13
-settleNumber (settled.Damaged n c) = 14
-settleNumber settled.NotSession = 8
-settleNumber settled.BadRoom = 16
+settleNumber a = settleReturns a .number
 
 -- ---- the report
 -- 01 'A session', Report: "worked out anew from list and cells"
@@ -103,8 +110,11 @@ unfoldable pub reportOn : Layout → Session → Memory → Reported
 reportOn l s m =
     tested l s m reported.NotSession reported.BadRoom (reported.Told (reportOf (s .listed) (m .table .flows) (m .list .flags)))
 
--- 01's number for each answer
+-- 01's number and values for each answer; the report's own numbers stand in it
+abbrev pub reportReturns : Reported → Returned
+reportReturns (reported.Told r) = only 0
+reportReturns reported.NotSession = only 8
+reportReturns reported.BadRoom = only 16
+
 abbrev pub reportNumber : Reported → ℕ
-reportNumber (reported.Told r) = 0
-reportNumber reported.NotSession = 8
-reportNumber reported.BadRoom = 16
+reportNumber a = reportReturns a .number

@@ -1,0 +1,3 @@
+-- The theorem, and what it stands on.
+pub mod Lines
+pub mod Printed
