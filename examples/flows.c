@@ -1,7 +1,9 @@
 /*
  * Prints the flows of an image file, in the printing program's format: flows SLOT FILE
  * It opens the image, settles the session and prints its report and its list.
+ * Exit status: 0 printed; 1 refused, with the reason in words on standard error; 2 used wrongly, or the file could not be read or the lines written.
  */
+#include <errno.h>
 #include <stdio.h>
 #include <stdlib.h>
 
@@ -30,9 +32,32 @@ struct room {
 static struct room room;
 static uint8_t image[ELDERFLUTE_MOST_IMAGE_BYTES + 1];
 
+enum { PRINTED, REFUSED, FAILED };
+
+/* Words for the numbers that reading, opening and settling answer. */
+static const char *words(uint32_t number) {
+    switch (number) {
+    case ELDERFLUTE_LENGTH:
+        return "the image's length";
+    case ELDERFLUTE_CHECK:
+        return "a block's check does not fit its bytes";
+    case ELDERFLUTE_FORM:
+        return "a block's form";
+    case ELDERFLUTE_MIXED:
+        return "a later block has another salt or slot than the first";
+    case ELDERFLUTE_STALE:
+        return "the image is not of the wanted slot";
+    case ELDERFLUTE_DAMAGE:
+        return "the cells contradict each other";
+    default:
+        return "a number that include/elderflute.h explains";
+    }
+}
+
 static int refused(uint32_t number) {
     printf("refused %u\n", (unsigned)number);
-    return 0;
+    fprintf(stderr, "flows: refused %u: %s\n", (unsigned)number, words(number));
+    return REFUSED;
 }
 
 static void print_address(const uint8_t *a) { printf("%u.%u.%u.%u", a[0], a[1], a[2], a[3]); }
@@ -72,20 +97,42 @@ static int print_flows(uint32_t slot, size_t length) {
            states[figures[ELDERFLUTE_STATE]]);
     for (size_t i = 0; i < listed; i++)
         print_flow(room.keys + ELDERFLUTE_KEY_BYTES * i, room.flags[i] & ELDERFLUTE_KNOWN, room.counts[i]);
-    return 0;
+    return PRINTED;
+}
+
+/* The slot in decimal digits; 0 where the text is none from 0 to 4,294,967,295. */
+static int slot_of(const char *text, uint32_t *slot) {
+    char *end;
+    if (*text < '0' || *text > '9')
+        return 0;
+    errno = 0;
+    unsigned long long number = strtoull(text, &end, 10);
+    *slot = (uint32_t)number;
+    return *end == '\0' && errno == 0 && number <= UINT32_MAX;
 }
 
 int main(int argc, char **argv) {
-    if (argc != 3) {
-        fprintf(stderr, "usage: flows SLOT FILE\n");
-        return 2;
+    uint32_t slot;
+    if (argc != 3 || !slot_of(argv[1], &slot)) {
+        fprintf(stderr, "usage: flows SLOT FILE, the slot from 0 to 4294967295\n");
+        return FAILED;
     }
     FILE *file = fopen(argv[2], "rb");
     if (!file) {
         perror(argv[2]);
-        return 1;
+        return FAILED;
     }
+    /* one byte more than the longest image, so that a longer file is seen as such */
     size_t length = fread(image, 1, sizeof image, file);
+    if (ferror(file)) {
+        perror(argv[2]);
+        return FAILED;
+    }
     fclose(file);
-    return print_flows((uint32_t)strtoul(argv[1], NULL, 10), length);
+    int status = print_flows(slot, length);
+    if (fflush(stdout) != 0 || ferror(stdout)) {
+        perror("standard output");
+        return FAILED;
+    }
+    return status;
 }

@@ -1,6 +1,6 @@
 /*
  * Elderflute: a collector for FlowRadar flowsets. This header declares every call of libelderflute.a, which `rt staticlib elderflute` builds for
- * x86-64 Linux. docs/MANUAL.md says what each call is for; document 01 decides.
+ * x86-64 Linux. docs/MANUAL.md says what each call is for; document 01 (docs/SPECIFICATION.md) decides.
  *
  * Every call answers a number of enum elderflute_number, ELDERFLUTE_DONE where it did what is said. It allocates nothing, keeps nothing between
  * calls and reads and writes only what is lent, so calls on other memory may run at the same time.
@@ -22,6 +22,9 @@
 #ifdef __cplusplus
 extern "C" {
 #endif
+
+/* The version, as in the file VERSION. */
+#define ELDERFLUTE_VERSION "0.1.0"
 
 /* 01's numbers. */
 enum elderflute_number {

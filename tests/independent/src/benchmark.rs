@@ -8,6 +8,7 @@
 #![allow(dead_code)]
 
 mod bytes;
+mod chart;
 mod counters;
 mod encoder;
 mod engine;
@@ -37,7 +38,7 @@ mod time_plot;
 mod words;
 mod working;
 
-#[path = "../../../rust/elderflute.rs"]
+#[path = "../../../rust/src/lib.rs"]
 mod elderflute;
 
 use std::time::Instant;

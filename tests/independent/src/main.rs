@@ -3,6 +3,7 @@
 
 mod answer;
 mod bytes;
+mod chart;
 mod compare;
 mod compare_printing;
 mod counters;
@@ -70,8 +71,7 @@ const USAGE: &str = "usage: independent answer < REQUESTS
        independent printing-input SEED NUMBER
        independent store-printing FOLDER
        independent print < SLOT_AND_IMAGE
-       independent sizing SEED RUNS
-       independent sizing-plot SEED RUNS
+       independent sizing SEED RUNS [PLOT.svg]
        independent selftest";
 
 /// From so many requests on sessions on, no answer may be missing.
@@ -136,17 +136,21 @@ fn run(words: &[&str]) -> io::Result<bool> {
             io::stdout().lock().write_all(&inputs[which]).map(|()| true)
         }
         ["print"] => print_flows().map(|()| true),
-        ["sizing", seed, runs] => {
-            let text = sizing::sizing(number(seed)?, number(runs)?.max(1) as usize);
-            io::stdout().lock().write_all(text.as_bytes()).map(|()| true)
-        }
-        ["sizing-plot", seed, runs] => {
-            let svg = plot::decode_plot(number(seed)?, number(runs)?.max(1) as usize);
-            io::stdout().lock().write_all(svg.as_bytes()).map(|()| true)
-        }
+        ["sizing", seed, runs] => print_sizing(number(seed)?, number(runs)?, None),
+        ["sizing", seed, runs, path] => print_sizing(number(seed)?, number(runs)?, Some(path)),
         ["selftest"] => Ok(selftest::selftest()),
         _ => Err(io::Error::other(USAGE)),
     }
+}
+
+/// Prints the figures, and draws the decode rates among them where a file is named.
+fn print_sizing(seed: u64, runs: u64, path: Option<&str>) -> io::Result<bool> {
+    let runs = runs.max(1) as usize;
+    let (text, decoded) = sizing::sizing(seed, runs);
+    if let Some(path) = path {
+        std::fs::write(path, plot::decode_plot(seed, runs, &decoded))?;
+    }
+    io::stdout().lock().write_all(text.as_bytes()).map(|()| true)
 }
 
 fn number(word: &str) -> io::Result<u64> {

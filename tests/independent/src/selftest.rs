@@ -5,6 +5,7 @@ use std::fmt::Debug;
 
 use crate::answer::answer;
 use crate::bytes::{u16_at, u32_at};
+use crate::chart::{Ruled, Scale};
 use crate::compare::parting;
 use crate::counters::{seed_with, Counter};
 use crate::edges::{edges, FNV_VECTORS};
@@ -55,6 +56,7 @@ pub fn selftest() -> bool {
         shrinking,
         partings,
         generator,
+        charts,
     ] {
         group(&mut tally);
     }
@@ -587,5 +589,16 @@ fn generator(tally: &mut Tally) {
         tally.holds("below 30 MB", stream.len() < 30_000_000);
         tally.equal("kinds that a stream misses", missing_kinds(&requests), vec![]);
         tally.equal("stream read back", parse_stream(&stream), Some(requests));
+    }
+}
+
+/// Whatever was measured lies within a chart's axes.
+fn charts(tally: &mut Tally) {
+    for values in [vec![0.3], vec![7.0, 7.0], vec![185.0, 98_305.0], vec![1.0, 3_000_000.0]] {
+        for scale in [Scale::Steps(20.0), Scale::Powers] {
+            let ruled = Ruled::over(scale, values.iter().copied());
+            let within = values.iter().all(|&value| (0.0..=1.0).contains(&ruled.place(value)));
+            tally.holds_in("a chart's points lie within its axes", &format!("{values:?}"), within);
+        }
     }
 }

@@ -18,13 +18,25 @@ const PERCENTS: [usize; 10] = [10, 30, 50, 60, 70, 75, 80, 90, 100, 120];
 const FILTERS: [(u8, u8); 6] = [(4, 4), (8, 4), (8, 6), (16, 4), (16, 6), (16, 8)];
 const FILTER_FLOWS: [usize; 3] = [288, 576, 1_152];
 
-pub fn sizing(seed: u64, runs: usize) -> String {
-    let random = &mut Random::new(seed);
+/// How many flowsets of a table at a load settled whole, in per cent.
+pub struct Decoded {
+    pub sizes: Sizes,
+    pub load: usize,
+    pub whole: f64,
+}
+
+/// The lines of all figures, and the decode rates among them.
+pub fn sizing(seed: u64, runs: usize) -> (String, Vec<Decoded>) {
+    let (random, mut decoded) = (&mut Random::new(seed), Vec::new());
     let mut text = format!("seed {seed}, {runs} flowsets a line\n");
     text += "k  q     N  load  flows  whole%  shared-by-two%  settle ns/flow\n";
     for (k, q) in TABLES {
         let sizes = Sizes { kf: 7, f: 16, k, q };
-        PERCENTS.iter().for_each(|&percent| text += &decode_line(random, sizes, percent, runs));
+        for load in PERCENTS {
+            let (line, whole) = decode_line(random, sizes, load, runs);
+            text += &line;
+            decoded.push(Decoded { sizes, load, whole });
+        }
     }
     text += "\nkeys that differ little, in tables of load 60%\nkeys                              k  q  flows  whole%\n";
     for (name, keys) in STRUCTURED {
@@ -37,10 +49,10 @@ pub fn sizing(seed: u64, runs: usize) -> String {
     for flows in FILTER_FLOWS {
         FILTERS.iter().for_each(|&(f, kf)| text += &filter_line(random, flows, f, kf, runs));
     }
-    text
+    (text, decoded)
 }
 
-fn decode_line(random: &mut Random, sizes: Sizes, percent: usize, runs: usize) -> String {
+fn decode_line(random: &mut Random, sizes: Sizes, percent: usize, runs: usize) -> (String, f64) {
     let flows = sizes.cells() * percent / 100;
     let (mut whole, mut shared, mut listed, mut times) = (0, 0, 0, Vec::new());
     for _ in 0..runs {
@@ -59,7 +71,7 @@ fn decode_line(random: &mut Random, sizes: Sizes, percent: usize, runs: usize) -
     let per_flow = median(times).as_nanos() as f64 / (listed as f64 / runs as f64).max(1.0);
     let (n, k, q) = (sizes.cells(), sizes.k, sizes.q);
     let (whole, shared) = (percent_of(whole), percent_of(shared));
-    format!("{k} {q:2} {n:5} {percent:4}% {flows:6} {whole:7.1} {shared:15.1} {per_flow:15.0}\n")
+    (format!("{k} {q:2} {n:5} {percent:4}% {flows:6} {whole:7.1} {shared:15.1} {per_flow:15.0}\n"), whole)
 }
 
 /// Numbered packets of a kind of traffic.
@@ -84,17 +96,6 @@ fn structured_line(random: &mut Random, name: &str, keys: Keys, sizes: Sizes, ru
     let whole = (0..runs).filter(|_| settled_whole(random)).count();
     let (k, q, whole) = (sizes.k, sizes.q, 100.0 * whole as f64 / runs as f64);
     format!("{name:32} {k:2} {q:2} {flows:6} {whole:7.1}\n")
-}
-
-/// The share of flowsets that settle whole, against load in per cent of the cells.
-pub fn decode_rate(random: &mut Random, sizes: Sizes, percent: usize, runs: usize) -> f64 {
-    let flows = sizes.cells() * percent / 100;
-    let settled_whole = |random: &mut Random| {
-        let packets = random_packets(random, flows);
-        let mut session = open(&encode(random, sizes, &packets).0);
-        session.settle().is_ok() && is_whole(&session)
-    };
-    (0..runs).filter(|_| settled_whole(random)).count() as f64 / runs as f64
 }
 
 fn filter_line(random: &mut Random, flows: usize, f: u8, kf: u8, runs: usize) -> String {

@@ -1,7 +1,7 @@
 //! Elderflute for Rust: safe functions over slices, one for each call of libelderflute.a (include/elderflute.h). No dependencies.
 //!
 //! Each function answers what the call gives or a [`Refusal`]; it allocates nothing. Lengths are those of include/elderflute.h: a slice of
-//! another length is refused with [`Refusal::Room`], never written past. Link with `-l static=elderflute -L target/staticlib`.
+//! another length is refused with [`Refusal::Room`], never written past. Cargo links the library by build.rs, which says where it looks for it.
 
 #![warn(missing_docs)]
 
@@ -53,6 +53,8 @@ pub enum Refusal {
     SlotsDiffer = 15,
     /// Lent room of the wrong length.
     Room = 16,
+    /// A number that this version does not know.
+    Unknown = u32::MAX,
 }
 
 use Refusal::*;
@@ -81,14 +83,17 @@ impl Refusal {
     pub fn number(self) -> u32 {
         self as u32
     }
+
+    /// The refusal of a number; none for 0.
+    pub fn of(number: u32) -> Option<Refusal> {
+        let place = number.checked_sub(1)? as usize;
+        Some(Refusal::ALL.get(place).copied().unwrap_or(Unknown))
+    }
 }
 
 /// What a call's number says.
 fn done(number: u32) -> Result<(), Refusal> {
-    match number {
-        0 => Ok(()),
-        _ => Err(Refusal::ALL[number as usize - 1]),
-    }
+    Refusal::of(number).map_or(Ok(()), Err)
 }
 
 /// Sizes of a flowset: kf from 1 to 8, F from 1 to 16, k from 2 to 4, q from 1 to 16.
@@ -411,7 +416,8 @@ impl Session {
             )
         })?;
         let [listed, counted, open, state] = figures;
-        Ok(Report { listed, counted, open, state: [State::Whole, State::Short, State::Stuck][state] })
+        let state = [State::Whole, State::Short, State::Stuck].get(state).copied().ok_or(Unknown)?;
+        Ok(Report { listed, counted, open, state })
     }
 }
 

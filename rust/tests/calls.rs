@@ -1,8 +1,5 @@
 //! Calls every function of the wrapper once at least: packets to an image, the image to flows, and the refusals on the way.
 
-#[path = "elderflute.rs"]
-mod elderflute;
-
 use elderflute::*;
 
 const SIZES: Sizes = Sizes { kf: 4, f: 2, k: 3, q: 2 };
@@ -165,8 +162,14 @@ fn an_exchange_lists_what_either_finds() {
     let mut a = open(&image_of(30), SLOT, &mut room_a.lend()).unwrap();
     let mut b = open(&image_of(20), SLOT, &mut room_b.lend()).unwrap();
     let mut room = joined(&room_a, &room_b);
-    assert_eq!(exchange(&mut a, &mut Session { slot: SLOT + 1, ..b }, &mut room.lend()).unwrap_err().refusal, Refusal::SlotsDiffer);
-    assert_eq!(exchange(&mut a, &mut b, &mut room_a.lend()), Err(Halted { refusal: Refusal::Room, at: None, twelves: 0 }));
+    assert_eq!(
+        exchange(&mut a, &mut Session { slot: SLOT + 1, ..b }, &mut room.lend()).unwrap_err().refusal,
+        Refusal::SlotsDiffer
+    );
+    assert_eq!(
+        exchange(&mut a, &mut b, &mut room_a.lend()),
+        Err(Halted { refusal: Refusal::Room, at: None, twelves: 0 })
+    );
     assert_eq!(exchange(&mut a, &mut b, &mut room.lend()), Ok(0));
     assert_eq!((a.listed, b.listed), (30, 20));
     let second = 2 * SIZES.cells();
@@ -203,4 +206,6 @@ fn printing_writes_the_program_s_lines() {
 #[test]
 fn numbers_are_document_01_s() {
     assert_eq!([Refusal::Length, Refusal::NotSession, Refusal::Room].map(Refusal::number), [1, 8, 16]);
+    assert_eq!([0, 1, 16].map(Refusal::of), [None, Some(Refusal::Length), Some(Refusal::Room)]);
+    assert_eq!([17, u32::MAX].map(Refusal::of), [Some(Refusal::Unknown); 2]);
 }
