@@ -25,7 +25,7 @@ hand-determined κs a p z z′ ws ws′ e e′ = let f = e ∙ sym e′ in (
 )
 
 pub taken-by-determined : Determined _ taken-by-kinds.ps taken-by-kinds.r taken-by.Asked taken-by.Learnt
-taken-by-determined κs a p z z′ ws ws′ e e′ = (e .1 ∙ sym (e′ .1), refl)
+taken-by-determined κs a p z z′ ws ws′ e e′ = (e .0 ∙ sym (e′ .0), refl)
 
 pub twelve-by-determined : Determined _ twelve-by-kinds.ps twelve-by-kinds.r twelve-by.Asked twelve-by.Learnt
-twelve-by-determined κs a p z z′ ws ws′ e e′ = (e .1 ∙ sym (e′ .1), refl)
+twelve-by-determined κs a p z z′ ws ws′ e e′ = (e .0 ∙ sym (e′ .0), refl)
