@@ -1,8 +1,8 @@
 -- The call: what its tests find, and what both sessions are where all are passed.
-use mathlib.Core.Path.{_≡_, refl, sym, ap, ap₂, subst, _∙_}
-use mathlib.Core.Bool.{Bool, true, false, cond}
+use mathlib.Core.Path.{_≡_, sym, ap, subst, _∙_}
+use mathlib.Core.Bool.{true}
 use mathlib.Core.List.{List, [], _++_}
-use Prim.Native.Nat.{ℕ, _+_, _-_, _*_, _≤_}
+use Prim.Native.Nat.{ℕ, _+_, _-_}
 use native.Mathlib.Omega.{arith}
 use borrow.Author.Tests.{eq-eqb}
 use lib.Dec.{eqb}
@@ -10,29 +10,28 @@ use lib.ListN.{length, take, drop, replicate, length-append, length-drop, take-a
 use lib.Seq.{length-take-le, take-all}
 use Rattle.layout.specs.declared.Layout.{Layout}
 use Rattle.layout.specs.declared.Sizes.{Sizes}
-use Rattle.layout.specs.Sizes.{Lays, Ranged, tableCells}
+use Rattle.layout.specs.Sizes.{Lays, Ranged}
 use Rattle.layout.proofs.Ranges.{ranged, table-high}
 use Rattle.list.specs.Records.{Records}
 use Rattle.table.specs.Table.{Tab}
 use Rattle.index.proofs.Index.{empty-zeros}
-use Rattle.found.specs.Seen.{Covers}
-use Rattle.test8.specs.Test8.{overListed, isSession}
-use Rattle.test8.specs.Given.{seenUpto}
 use Rattle.test8.proofs.Answers as test8
 use Rattle.test8.proofs.Passed.{listed-few}
 use Rattle.test8.proofs.Notes.{length-seen, seen-covers}
 use Rattle.room.specs.declared.Session.{Session}
 use Rattle.room.specs.Memory.{Memory, memory, Rooms}
 use Rattle.parts.specs.declared.Place.{Place}
-use Rattle.parts.specs.Sides.{Switch, Side, side, Stands}
+use Rattle.parts.specs.Sides.{side, Stands}
 use Rattle.parts.specs.Areas.{origin, placeAfter, between, laid, tableAt, listAt, Areas, areas, partAt}
-use Rattle.exchange.specs.Exchange.{Pair, pair, Ended, exchangeSides, switchOf, seenIn, sideOf, roomA, roomB, seam, roomEnd, joinedTable, joinedList, joined, areasFit, Exchanging, exchanging, exchangeTest, afterTest, exchangeOf, answerOf, roomLeft, leaves, pairIn, Left, left, leftBy, Ends, Both}
-use Rattle.exchange.specs.declared.Round.{Round}
+use Rattle.rounds.specs.Rounds.{pair, exchangeSides}
+use Rattle.rounds.specs.Joined.{switchOf, seam, roomEnd, pairIn, Left, left, leftBy, Ends, Both}
+use Rattle.exchange.specs.Exchange.{seenIn, sideOf, roomA, roomB, joined, areasFit, Exchanging, exchanging, exchangeTest, afterTest, exchangeOf, answerOf}
+use Rattle.ending.specs.declared.Round.{Round}
 use Rattle.exchange.specs.declared.Exchanged.{Exchanged}
 use Rattle.exchange.specs.declared.Exchanged.the-variants as exchanged
 use Rattle.exchange.specs.declared.Tested.{Tested}
 use Rattle.exchange.specs.declared.Tested.the-variants as tested
-use Rattle.exchange.proofs.Both.{first-laid, second-laid, first-between, second-between}
+use Rattle.rounds.proofs.Both.{first-laid, second-laid, first-between, second-between}
 use Rattle.exchange.proofs.Rooms.{FullRoom, areas-full, areas-rooms}
 use Rattle.exchange.proofs.Tests.{testOf, Passing}
 

@@ -1,9 +1,5 @@
--- The exchange of two sessions: laws, and the proofs of its functions.
-pub mod Both
-pub mod Steps
+-- The call of the exchange: laws, and the proofs of its functions.
 pub mod Rooms
-pub mod Gives
-pub mod Rounds
 pub mod Call
 pub mod Tests
 pub mod Testing

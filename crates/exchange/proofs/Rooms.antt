@@ -14,7 +14,8 @@ use Rattle.layout.specs.Sizes.{Lays, Ranged}
 use Rattle.room.specs.Memory.{Memory, Rooms}
 use Rattle.parts.specs.declared.Place.{Place}
 use Rattle.parts.specs.Areas.{placeAfter}
-use Rattle.exchange.specs.Exchange.{Full, seam, roomEnd, areasFit, roomA, roomB, joinedTable, joinedList, joined}
+use Rattle.rounds.specs.Joined.{Full, seam, roomEnd, joinedTable, joinedList}
+use Rattle.exchange.specs.Exchange.{areasFit, roomA, roomB, joined}
 
 -- every list ends at the place e
 pub record FullRoom (e : Place) (m : Memory) : Type 0 where

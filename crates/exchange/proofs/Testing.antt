@@ -1,8 +1,8 @@
 -- The tests of the call, as the code makes them: the places first, then the lengths, then each session.
-use mathlib.Core.Path.{_≡_, refl, sym, ap, ap₂, subst, _∙_}
+use mathlib.Core.Path.{_≡_, sym, ap, ap₂, subst, _∙_}
 use mathlib.Core.Bool.{Bool, true, false, cond, _&&_}
 use mathlib.Core.List.{List, [], _++_}
-use Prim.Native.Nat.{ℕ, _+_, _-_, _*_, _≤_}
+use Prim.Native.Nat.{ℕ, _+_, _-_, _*_}
 use native.Mathlib.Nat.{mul-le-mul}
 use native.Mathlib.Omega.{arith}
 use lib.Dec.{eqb}
@@ -25,13 +25,13 @@ use Rattle.test8.proofs.Notes.{length-seen}
 use Rattle.room.specs.declared.Session.{Session}
 use Rattle.room.specs.Memory.{Memory, Rooms}
 use Rattle.parts.specs.declared.Place.{Place}
-use Rattle.parts.specs.Areas.{Near, origin, placeAfter, between, laid, tableAt, listAt, Inside, Areas, areas}
-use Rattle.parts.proofs.Areas.{length-between}
+use Rattle.parts.specs.Areas.{Near, origin, placeAfter, between, laid, tableAt, listAt, Inside, areas}
 use Rattle.exchange.specs.declared.Tested.{Tested}
 use Rattle.exchange.specs.declared.Tested.the-variants as tested
-use Rattle.exchange.specs.Exchange.{exchangeTest, areasFit, seam, roomEnd, roomA, roomB, seenIn, Ends}
+use Rattle.rounds.specs.Joined.{seam, roomEnd, Ends}
+use Rattle.exchange.specs.Exchange.{exchangeTest, areasFit, roomA, roomB, seenIn}
 use Rattle.exchange.proofs.Rooms.{FullRoom, areas-full, areas-rooms}
-use Rattle.exchange.proofs.Steps.{first-inside, second-inside}
+use Rattle.rounds.proofs.Steps.{first-inside, second-inside}
 use Rattle.exchange.proofs.Call.{table-a, list-a, table-b, list-b, ends, first-index, second-index, second-there}
 use Rattle.exchange.proofs.Tests.{testOf, isPassed, tested-sizes, tested-room, tested-rest, tested-slot, tested-passed}
 

@@ -9,7 +9,8 @@ use Rattle.layout.specs.Sizes.{inRange}
 use Rattle.test8.specs.Test8.{isSession}
 use Rattle.room.specs.declared.Session.{Session}
 use Rattle.room.specs.Memory.{Memory}
-use Rattle.exchange.specs.Exchange.{seam, roomEnd, areasFit, roomA, roomB, exchangeTest}
+use Rattle.rounds.specs.Joined.{seam, roomEnd}
+use Rattle.exchange.specs.Exchange.{areasFit, roomA, roomB, exchangeTest}
 use Rattle.exchange.specs.declared.Tested.{Tested}
 use Rattle.exchange.specs.declared.Tested.the-variants as tested
 

@@ -11,6 +11,7 @@ use Rattle.laws.proofs.BigEndian.{bytes-append}
 use Rattle.laws.proofs.Rows.{join-same, list-join, join-add}
 use Rattle.list.specs.Records.{Records, records}
 use Rattle.packet.specs.Key.{keyBytes}
+use Rattle.rounds.specs.Joined as areas
 use Rattle.exchange.specs.Exchange as numbers
 use Rattle.records.specs.declared.Record.{Record}
 use Rattle.records.specs.Record.{blank, at, flagByte, keysUpto, countsUpto, flagsUpto, apart}
@@ -40,8 +41,8 @@ module _ (a b : List Record) where
       list-join (length (a ++ b)) (λ i. f (at (a ++ b) i)) ∙ joins (λ r. f r ∷ [])
       ∙ ap₂ _++_ (sym (list-join (length a) (λ i. f (at a i)))) (sym (list-join (length b) (λ i. f (at b i))))
 
-  apart-joined : apart (a ++ b) ≡ numbers.joinedList (apart a) (apart b)
-  unfolding apart keysUpto countsUpto flagsUpto numbers.joinedList
+  apart-joined : apart (a ++ b) ≡ areas.joinedList (apart a) (apart b)
+  unfolding apart keysUpto countsUpto flagsUpto areas.joinedList
   apart-joined =
       let keys = joins (λ r. keyBytes (r .key)) in
       let counts = lists (λ r. r .count) in
@@ -50,11 +51,11 @@ module _ (a b : List Record) where
 
 pub numbers-joined : (a b : Lent) → asNumbers (joined a b) ≡ numbers.joined (asNumbers a) (asNumbers b)
 unfolding joined numbers.joined
-numbers-joined a b = ap (memory (a .filter ++ b .filter) (numbers.joinedTable (a .table) (b .table)) (a .packets ++ b .packets)) (apart-joined (a .list) (b .list))
+numbers-joined a b = ap (memory (a .filter ++ b .filter) (areas.joinedTable (a .table) (b .table)) (a .packets ++ b .packets)) (apart-joined (a .list) (b .list))
 
 -- ---- lists of numbers that records can be, joined, are such lists
-pub sound-joined : (m n : ℕ) (rs vs : Records) → Sound m rs → Sound n vs → Sound (m + n) (numbers.joinedList rs vs)
-unfolding numbers.joinedList
+pub sound-joined : (m n : ℕ) (rs vs : Records) → Sound m rs → Sound n vs → Sound (m + n) (areas.joinedList rs vs)
+unfolding areas.joinedList
 sound-joined m n rs vs s t = record {
   room = record {
     keys-fit = length-append (rs .keys) (vs .keys) ∙ omega (arith, s .room .keys-fit, t .room .keys-fit);

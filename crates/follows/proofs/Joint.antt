@@ -5,7 +5,9 @@ use Prim.Native.Nat.{_+_}
 use lib.ListN.{length}
 use Rattle.laws.specs.BigEndian.{Bytes}
 use Rattle.layout.specs.Sizes.{ipv4Layout}
-use Rattle.exchange.specs.Exchange.{Exchanging, exchanging, exchangeOf, exchangeNumber, switchOf, sideOf, pair}
+use Rattle.exchange.specs.Exchange.{Exchanging, exchanging, exchangeOf, exchangeNumber, sideOf}
+use Rattle.rounds.specs.Joined.{switchOf}
+use Rattle.rounds.specs.Rounds.{pair}
 use Rattle.exchange.specs.Exchange as numbers
 use Rattle.theory.specs.Flow.{Key}
 use Rattle.theory.specs.Session.{counted}

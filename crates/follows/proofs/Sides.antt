@@ -12,9 +12,10 @@ use Rattle.peeling.specs.declared.Stop.{Stop}
 use Rattle.peeling.specs.declared.Stop.the-variants as stop
 use Rattle.test8.specs.Test8.{handedIn}
 use Rattle.parts.specs.Sides.{Switch, Side, settleSide, Given, given, handAt, handKeys, handList}
-use Rattle.exchange.specs.declared.Ending.{Ending}
-use Rattle.exchange.specs.declared.Ending.the-variants as end
-use Rattle.exchange.specs.Exchange.{Pair, thenB, settleBoth, handBoth, round, isOver, rounds, mostRounds, thenRounds, exchangeSides}
+use Rattle.ending.specs.declared.Ending.{Ending}
+use Rattle.ending.specs.declared.Ending.the-variants as end
+use Rattle.rounds.specs.Rounds.{Pair, thenB, settleBoth, handBoth, round, rounds, mostRounds, thenRounds, exchangeSides}
+use Rattle.ending.specs.Over.{isOver}
 use Rattle.follows.proofs.Kept.{Keep, xor-bytes, settled-keeps, handed-keeps}
 
 -- one session, whose list has room for m records

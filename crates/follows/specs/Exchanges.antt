@@ -2,7 +2,8 @@
 use mathlib.Core.List.{_++_}
 use Rattle.layout.specs.Sizes.{ipv4Layout}
 use Rattle.exchange.specs.declared.Exchanged.{Exchanged}
-use Rattle.exchange.specs.Exchange.{exchanging, joinedTable}
+use Rattle.exchange.specs.Exchange.{exchanging}
+use Rattle.rounds.specs.Joined.{joinedTable}
 use Rattle.theory.specs.Exchange.{Pair}
 use Rattle.joint.specs.Exchanges.{pairLeft}
 use Rattle.calls.specs.Calls.{Lent, lent, Called, asNumbers}

@@ -9,9 +9,11 @@ use Rattle.layout.specs.declared.Sizes.{Sizes}
 use Rattle.layout.specs.Sizes.{filterBytes, inRange}
 use Rattle.room.specs.Memory.{Memory, Rooms}
 use Rattle.parts.specs.Sides as sides
-use Rattle.exchange.specs.Exchange.{Ended, seam, roomA, roomB, joined, exchangeSides, afterTest, exchangeOf, leaves, answerOf, switchOf, sideOf, roomLeft, pair, exchangeNumber}
-use Rattle.exchange.specs.declared.Ending.{Ending}
-use Rattle.exchange.specs.declared.Ending.the-variants as end
+use Rattle.rounds.specs.Rounds.{Ended, exchangeSides, pair}
+use Rattle.rounds.specs.Joined.{seam, switchOf}
+use Rattle.exchange.specs.Exchange.{roomA, roomB, joined, afterTest, exchangeOf, leaves, answerOf, sideOf, roomLeft, exchangeNumber}
+use Rattle.ending.specs.declared.Ending.{Ending}
+use Rattle.ending.specs.declared.Ending.the-variants as end
 use Rattle.exchange.proofs.Rooms.{joined-fits, joined-a, joined-b}
 use Rattle.exchange.proofs.Tests.{tested-passed}
 use Rattle.theory.specs.Settle.{stopNumber}

@@ -28,9 +28,10 @@ use Rattle.handing.specs.declared.Handed.the-variants.{Taken, NotInFilter, List
 use Rattle.handing.specs.Hand.{handOf, handNumber, twelveBy}
 use Rattle.parts.specs.Sides as sides
 use Rattle.parts.specs.Sides.{Side, settleSide, Given, given, handAt, handKeys, handList, withGiven}
-use Rattle.exchange.specs.Exchange as lists
-use Rattle.exchange.specs.declared.Ending.the-variants as end
-use Rattle.exchange.specs.declared.Ending.{Ending}
+use Rattle.ending.specs.Over as over
+use Rattle.rounds.specs.Rounds as lists
+use Rattle.ending.specs.declared.Ending.the-variants as end
+use Rattle.ending.specs.declared.Ending.{Ending}
 use Rattle.theory.specs.Flow.{Key}
 use Rattle.theory.specs.Session.{Session, keysOf}
 use Rattle.theory.specs.Settle as theory
@@ -193,7 +194,7 @@ module _ (l : Layout) where
 
     -- B's settling ended so, after A's
     after-b : (a : Side) (s : Session) (b : Side) (t : Session) (m n : ℕ) → m ≡ n → SideShows A a s → SideShows B b t → (o : Stop)
-        → EndShows (lists.ended (lists.endingB o) (lists.pair a b m)) (exchange.afterB s t n (stopOf o))
+        → EndShows (lists.ended (over.endingB o) (lists.pair a b m)) (exchange.afterB s t n (stopOf o))
     after-b a s b t m n e ha hb (stop.Done i) = record { pair-shows = record { shows-a = ha; shows-b = hb; twelves-are = e }; ends-as = refl }
     after-b a s b t m n e ha hb (stop.Full i c) = record { pair-shows = record { shows-a = ha; shows-b = hb; twelves-are = e }; ends-as = refl }
     after-b a s b t m n e ha hb (stop.Damaged i c) = record { pair-shows = record { shows-a = ha; shows-b = hb; twelves-are = e }; ends-as = refl }
@@ -203,7 +204,7 @@ module _ (l : Layout) where
         → EndShows (lists.thenB l B a b m o) (exchange.afterA wB s t n (stopOf o))
     unfolding lists.thenB
     after-a a s b t m n e ha hb (stop.Done i) =
-        subst (λ o. EndShows (lists.ended (lists.endingB (settleSide l B b .stop)) (lists.pair a (settleSide l B b .left) m))
+        subst (λ o. EndShows (lists.ended (over.endingB (settleSide l B b .stop)) (lists.pair a (settleSide l B b .left) m))
         (exchange.afterB s (settleAt wB t .state) n o)) (side-stops B g b t hb)
         (after-b a s (settleSide l B b .left) (settleAt wB t .state) m n e ha (side-settles B g b t hb) (settleSide l B b .stop))
     after-a a s b t m n e ha hb (stop.Full i c) = record { pair-shows = record { shows-a = ha; shows-b = hb; twelves-are = e }; ends-as = refl }
@@ -287,9 +288,9 @@ module _ (l : Layout) where
     goes-on : (more : lists.Pair → lists.Ended) (go : exchange.Pair → exchange.Exchanged) → Rounds more go
         → (p : lists.Pair) (q : exchange.Pair) → PairShows p q → (r : lists.Ended) (u : exchange.Exchanged) → EndShows r u → Longer q (u .pair)
         → (o : Ending) → r .ending ≡ o
-        → EndShows (cond (lists.isOver (p .a .listed) (p .b .listed) (r .pair .a .listed) (r .pair .b .listed) o) r (more (r .pair)))
+        → EndShows (cond (over.isOver (p .a .listed) (p .b .listed) (r .pair .a .listed) (r .pair .b .listed) o) r (more (r .pair)))
         (exchange.goOn go q u (endingAs o))
-    unfolding lists.isOver exchange.goOn
+    unfolding over.isOver exchange.goOn
     goes-on more go later p q h r u k longer end.Settled e =
         rw (over-is p q (r .pair) (u .pair) h (k .pair-shows) longer) (elim (split (exchange.grew q (u .pair))) [
           | inl y ↦ rw y (later (r .pair) (u .pair) (k .pair-shows))

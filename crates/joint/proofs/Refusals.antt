@@ -9,9 +9,11 @@ use Rattle.layout.specs.Numbers.{Returned, only, withTwelves, withSwitch}
 use Rattle.test8.specs.Test8.{isSession}
 use Rattle.room.specs.declared.Session.{Session}
 use Rattle.room.specs.Memory.{Memory}
-use Rattle.exchange.specs.declared.Ending.{Ending}
-use Rattle.exchange.specs.declared.Ending.the-variants as end
-use Rattle.exchange.specs.Exchange.{exchangeOf, afterTest, exchangeReturns, answerOf, seam, roomEnd, areasFit, roomA, roomB, switchOf, sideOf, pair}
+use Rattle.ending.specs.declared.Ending.{Ending}
+use Rattle.ending.specs.declared.Ending.the-variants as end
+use Rattle.rounds.specs.Rounds.{pair}
+use Rattle.rounds.specs.Joined.{switchOf, seam, roomEnd}
+use Rattle.exchange.specs.Exchange.{exchangeOf, afterTest, exchangeReturns, answerOf, areasFit, roomA, roomB, sideOf}
 use Rattle.exchange.proofs.Tests.{tested-sizes, tested-room, tested-rest, tested-slot}
 use Rattle.theory.specs.Settle as theory
 use Rattle.theory.specs.Exchange as theory-exchange

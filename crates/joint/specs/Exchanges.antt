@@ -4,7 +4,8 @@ use Rattle.layout.specs.declared.Layout.{Layout}
 use Rattle.room.specs.declared.Session.{Session}
 use Rattle.exchange.specs.declared.Exchanged.{Exchanged}
 use Rattle.exchange.specs.declared.Exchanged.the-variants as exchanged
-use Rattle.exchange.specs.Exchange.{Exchanging, exchangeOf, joined, seam, roomA, roomB}
+use Rattle.exchange.specs.Exchange.{Exchanging, exchangeOf, joined, roomA, roomB}
+use Rattle.rounds.specs.Joined.{seam}
 use Rattle.theory.specs.Exchange.{Pair}
 use Rattle.demands.specs.Calls.{Live, live, withListed, viewed}
 

@@ -15,7 +15,8 @@ use Rattle.room.specs.Memory.{Memory}
 use Rattle.parts.specs.Areas.{placeAfter}
 use Rattle.exchange.specs.declared.Exchanged.{Exchanged}
 use Rattle.exchange.specs.declared.Exchanged.the-variants as exchanged
-use Rattle.exchange.specs.Exchange.{roomEnd, areasFit, afterTest, exchangeOf}
+use Rattle.rounds.specs.Joined.{roomEnd}
+use Rattle.exchange.specs.Exchange.{areasFit, afterTest, exchangeOf}
 use Rattle.exchange.proofs.Rooms.{areas-full}
 use Rattle.exchange.proofs.Tests.{tested-sizes, tested-room}
 use Rattle.calls.specs.Calls.{ran}

@@ -1,11 +1,9 @@
-use mathlib.Core.Path.{sym, _∙_}
 use Rattle.laws.proofs.Bools.{refuted}
 use Rattle.list.specs.Records.{records}
 use Rattle.table.specs.Table.{tab}
 use Rattle.room.specs.Memory.{memory}
 use Rattle.exchange.proofs.Rooms.{areas-full}
 use Rattle.exchange.proofs.Call.{last-fits}
-use borrow.Author.Needs.{needs}
 use Rattle.exchange.proofs.areas_fit.Statement.{statement}
 use Rattle.exchange.proofs.areas_fit.Tie as tie
 

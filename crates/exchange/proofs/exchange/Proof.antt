@@ -5,7 +5,6 @@ use Rattle.list.specs.Records.{records}
 use Rattle.table.specs.Table.{tab}
 use Rattle.room.specs.Memory.{memory}
 use Rattle.exchange.specs.Exchange.{exchangeOf}
-use borrow.Author.Needs.{needs}
 use Rattle.exchange.proofs.exchange.Statement.{statement}
 use Rattle.exchange.proofs.exchange.Tie as tie
 

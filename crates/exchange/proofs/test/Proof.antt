@@ -8,7 +8,6 @@ use Rattle.room.specs.Memory.{memory}
 use Rattle.parts.specs.Areas.{Near, placeAfter}
 use Rattle.exchange.specs.declared.Tested.the-variants as tested
 use Rattle.exchange.proofs.Testing.{not-passed, near-origin, near-seam, sizes-a, sizes-b, room-bad, need-a, not-a, need-b, not-b, other-slot, all-passed, index-both}
-use borrow.Author.Needs.{needs}
 use Rattle.exchange.proofs.test.Statement.{statement}
 use Rattle.exchange.proofs.test.Tie as tie
 

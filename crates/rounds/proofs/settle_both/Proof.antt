@@ -5,18 +5,12 @@ use Rattle.list.specs.Records.{records}
 use Rattle.table.specs.Table.{tab}
 use Rattle.parts.specs.Sides.{Stands}
 use Rattle.parts.specs.Areas.{origin, Inside, areas, partAt, settlePart}
-use Rattle.exchange.specs.Exchange.{switchOf}
-use Rattle.exchange.proofs.Both.{settles-a, settles-b}
-use Rattle.exchange.proofs.Steps.{inside-a, inside-b, packets-a, packets-b, lies-start, lies-both, both-stopped, both-settled}
+use Rattle.rounds.specs.Joined.{switchOf}
+use Rattle.rounds.proofs.Both.{settles-a, settles-b}
+use Rattle.rounds.proofs.Steps.{inside-a, inside-b, packets-a, packets-b, lies-start, lies-both, both-stopped, both-settled}
 use borrow.Author.Needs.{needs}
-use Rattle.exchange.proofs.settle_both.Statement.{statement}
-use Rattle.exchange.proofs.settle_both.Tie as tie
-use Rattle.exchange.proofs.settle_both.Reads as reads
-use Rattle.exchange.proofs.settle_both.Lts as lts
-use Rattle.exchange.proofs.after_a.Reads as after-a-reads
-use Rattle.exchange.proofs.after_b.Reads as after-b-reads
-use Rattle.parts.proofs.origin.Reads as origin-reads
-use Rattle.parts.proofs.settle_part.Reads as settle-part-reads
+use Rattle.rounds.proofs.settle_both.Statement.{statement}
+use Rattle.rounds.proofs.settle_both.Tie as tie
 
 origin-requires : tie.Need-origin-requires
 origin-requires c κs = search needs

@@ -1,18 +1,15 @@
 -- Settling both sessions: what the calls need, and what they leave.
 use mathlib.Core.Path.{_≡_, refl, sym, ap, ap₂, subst, _∙_}
-use mathlib.Core.Bool.{true, false, _&&_}
 use mathlib.Core.List.{List, [], _∷_, _++_}
 use mathlib.Core.Logic.{⊎-elim, _⊎_}
-use Prim.Native.Nat.{ℕ, _+_, _-_, _*_, _≤_}
+use Prim.Native.Nat.{ℕ, _+_, _-_, _≤_}
 use native.Mathlib.Omega.{arith}
 use types.Run.{OneOf}
 use denote.Enum.Declared.{tagOf}
 use lib.ListN.{length, take, drop, length-append, length-drop, take-append-drop}
-use lib.Dec.{eqb}
 use lib.Seq.{take-all}
 use Rattle.layout.specs.declared.Layout.{Layout}
 use Rattle.layout.specs.declared.Sizes.{Sizes}
-use Rattle.layout.specs.Sizes.{Lays, Ranged, tableCells}
 use Rattle.layout.proofs.Ranges.{table-high}
 use Rattle.peeling.specs.Peel.{listedAt}
 use Rattle.peeling.specs.declared.Stop.{Stop}
@@ -21,13 +18,12 @@ use Rattle.peeling.proofs.Stop as stop
 use Rattle.room.specs.declared.Session.{Session}
 use Rattle.parts.specs.declared.Place.{Place}
 use Rattle.parts.specs.Sides.{Switch, Side, Stands, settleSide}
-use Rattle.parts.specs.Areas.{origin, placeAfter, between, tableAt, listAt, Inside, Areas, areas, partAt, rest, settlePart}
-use Rattle.exchange.specs.declared.Round.{Round}
-use Rattle.exchange.specs.declared.Ending.{Ending}
-use Rattle.exchange.specs.declared.Ending.the-variants as end
-use Rattle.exchange.proofs.Ending as ending
-use Rattle.exchange.specs.Exchange.{Ended, ended, pair, endingA, endingB, thenB, settleBoth, isOver, switchOf, joinedTable, joinedList, joinedSides, seam, roomEnd, pairIn, roundOf, left, leftBy, Ends, Both}
-use Rattle.exchange.proofs.Both.{Long, stands-long, Lies, lies-a, lies-b, settles-a, settles-b}
+use Rattle.parts.specs.Areas.{origin, placeAfter, between, tableAt, listAt, Inside, Areas, areas, partAt}
+use Rattle.ending.specs.declared.Round.{Round}
+use Rattle.ending.specs.Over.{endingA, endingB, roundOf}
+use Rattle.rounds.specs.Rounds.{ended, pair, thenB, settleBoth}
+use Rattle.rounds.specs.Joined.{switchOf, joinedTable, joinedList, joinedSides, left, leftBy, Ends, Both}
+use Rattle.rounds.proofs.Both.{stands-long, Lies, lies-a, lies-b}
 
 halves : (i j : ℕ) (s : List ℕ) → i ≤ j → length s ≡ j → between 0 i s ++ between i j s ≡ s
 halves i j s up full =
@@ -233,21 +229,3 @@ module _ (l : Layout) (A B : Switch) (a b : Side) (twelves : ℕ) where
       ap₂ left
       (m ∙ (λ k. roundOf ((ap listedAt (sym d ∙ q) ∙ sym (listed-left A a)) k) ((ap listedAt g ∙ sym (listed-left B b)) k) twelves (endingB (g k)))) o
       ∙ ap leftBy (sym (then-done (settleSide l A a .stop) (sym q ∙ d)))
-
--- ---- whether it is over
-module _ (a b a′ b′ : ℕ) where
-  pub over-stopped : (x : Ending) → OneOf (1 ∷ 2 ∷ 3 ∷ 4 ∷ []) (tagOf ending.the-type x) → true ≡ isOver a b a′ b′ x
-  unfolding isOver
-  over-stopped end.Settled h = absurd (⊎-elim (λ e. omega arith) (⊎-elim (λ e. omega arith) (⊎-elim (λ e. omega arith) (λ e. omega arith))) h)
-  over-stopped (end.FullA c) h = refl
-  over-stopped (end.DamagedA c) h = refl
-  over-stopped (end.FullB c) h = refl
-  over-stopped (end.DamagedB c) h = refl
-
-  pub over-grown : {x : Ending} → x ≡ end.Settled → eqb a′ a ≡ false → false ≡ isOver a b a′ b′ x
-  unfolding isOver
-  over-grown q h = sym (ap (isOver a b a′ b′) q ∙ ap (λ v. v && eqb b′ b) h)
-
-  pub over-same : {x : Ending} → x ≡ end.Settled → eqb a′ a ≡ true → eqb b′ b ≡ isOver a b a′ b′ x
-  unfolding isOver
-  over-same q h = sym (ap (isOver a b a′ b′) q ∙ ap (λ v. v && eqb b′ b) h)

@@ -3,11 +3,11 @@ use native.Mathlib.Omega.{arith}
 use Rattle.list.specs.Records.{records}
 use Rattle.table.specs.Table.{tab}
 use Rattle.parts.specs.Areas.{between, areas}
-use Rattle.exchange.specs.Exchange.{rounds, switchOf, pairIn}
-use Rattle.exchange.proofs.Rounds.{Going, going-start, going-few, going-done, going-over, going-on}
-use borrow.Author.Needs.{needs}
-use Rattle.exchange.proofs.all_rounds.Statement.{statement}
-use Rattle.exchange.proofs.all_rounds.Tie as tie
+use Rattle.rounds.specs.Rounds.{rounds}
+use Rattle.rounds.specs.Joined.{switchOf, pairIn}
+use Rattle.rounds.proofs.Rounds.{Going, going-start, going-few, going-done, going-over, going-on}
+use Rattle.rounds.proofs.all_rounds.Statement.{statement}
+use Rattle.rounds.proofs.all_rounds.Tie as tie
 
 abbrev Inv-loop : tie.InvT-loop
 Inv-loop l s t p e a b most filter xors₀ flows₀ packets₀ unknowns₀ positions₀ marks₀ keys₀ counts₀ flags₀ seen₀ r₀ rest₀ xors flows packets unknowns positions marks keys counts flags seen r rest =

@@ -1,11 +1,9 @@
 use mathlib.Core.Path.{sym, ap}
 use Rattle.peeling.specs.Peel.{listedAt}
-use Rattle.exchange.specs.Exchange.{roundOf, endingA}
+use Rattle.ending.specs.Over.{roundOf, endingA}
 use borrow.Author.Needs.{needs}
-use Rattle.exchange.proofs.after_a.Statement.{statement}
-use Rattle.exchange.proofs.after_a.Tie as tie
-use Rattle.exchange.proofs.after_a.Reads as reads
-use Rattle.exchange.proofs.after_a.Lts as lts
+use Rattle.ending.proofs.after_a.Statement.{statement}
+use Rattle.ending.proofs.after_a.Tie as tie
 
 enum-known-s : tie.Need-enum-known-s
 enum-known-s c = search needs

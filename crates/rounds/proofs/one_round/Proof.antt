@@ -1,17 +1,15 @@
-use Rattle.exchange.specs.Exchange.{switchOf}
-use Rattle.exchange.proofs.Gives.{filter-a, filter-b, gives-a, gives-b, given-a, given-b, twelves-few, round-left}
-use mathlib.Core.Path.{refl, sym, ap, ap₂, subst, _∙_}
-use Prim.Native.Nat.{_+_}
+use Rattle.rounds.specs.Joined.{switchOf}
+use Rattle.rounds.proofs.Gives.{filter-a, filter-b, gives-a, gives-b, given-a, given-b, twelves-few, round-left}
+use mathlib.Core.Path.{refl, sym, ap₂, subst, _∙_}
 use native.Mathlib.Omega.{arith}
 use Rattle.list.specs.Records.{records}
 use Rattle.table.specs.Table.{tab}
 use Rattle.layout.proofs.Ranges.{table-high}
-use Rattle.parts.specs.Sides.{handList, given}
+use Rattle.parts.specs.Sides.{handList}
 use Rattle.parts.specs.Areas.{origin, between, givePart, Gives, areas, partAt}
-use Rattle.exchange.proofs.Steps.{lies-start, lies-at}
-use borrow.Author.Needs.{needs}
-use Rattle.exchange.proofs.one_round.Statement.{statement}
-use Rattle.exchange.proofs.one_round.Tie as tie
+use Rattle.rounds.proofs.Steps.{lies-start, lies-at}
+use Rattle.rounds.proofs.one_round.Statement.{statement}
+use Rattle.rounds.proofs.one_round.Tie as tie
 
 give-requires : tie.Need-give-requires
 give-requires c κs =

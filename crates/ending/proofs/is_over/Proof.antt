@@ -1,9 +1,8 @@
 use borrow.Author.Tests.{eq-eqb, ne-eqb}
-use Rattle.exchange.proofs.Steps.{over-stopped, over-grown, over-same}
-use mathlib.Core.Path.{refl, sym, ap, _∙_}
+use Rattle.ending.proofs.Over.{over-stopped, over-grown, over-same}
 use borrow.Author.Needs.{needs}
-use Rattle.exchange.proofs.is_over.Statement.{statement}
-use Rattle.exchange.proofs.is_over.Tie as tie
+use Rattle.ending.proofs.is_over.Statement.{statement}
+use Rattle.ending.proofs.is_over.Tie as tie
 
 enum-told : tie.Need-enum-told
 enum-told c = search needs

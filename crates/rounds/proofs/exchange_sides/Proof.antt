@@ -2,10 +2,10 @@ use mathlib.Core.Path.{ap₂, _∙_}
 use Prim.Native.Nat.{_+_, _*_}
 use native.Mathlib.Omega.{arith}
 use Rattle.layout.proofs.Ranges.{table-high}
-use Rattle.exchange.proofs.Rounds.{sides-both, sides-stopped, sides-settled}
+use Rattle.rounds.proofs.Rounds.{sides-both, sides-stopped, sides-settled}
 use borrow.Author.Needs.{needs}
-use Rattle.exchange.proofs.exchange_sides.Statement.{statement}
-use Rattle.exchange.proofs.exchange_sides.Tie as tie
+use Rattle.rounds.proofs.exchange_sides.Statement.{statement}
+use Rattle.rounds.proofs.exchange_sides.Tie as tie
 
 settle-both-requires : tie.Need-settle-both-requires
 settle-both-requires c κs =

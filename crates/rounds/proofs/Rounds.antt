@@ -3,7 +3,7 @@ use mathlib.Core.Path.{_≡_, refl, sym, ap, ap₂, subst, _∙_}
 use mathlib.Core.Bool.{Bool, true, false, cond}
 use mathlib.Core.List.{List, [], _∷_}
 use mathlib.Core.Logic.{⊎-elim, _⊎_}
-use Prim.Native.Nat.{ℕ, zero, suc, _+_, _-_, _*_, _≤_, _<_}
+use Prim.Native.Nat.{ℕ, suc, _+_, _-_, _*_, _≤_, _<_}
 use native.Mathlib.Omega.{arith}
 use types.Run.{OneOf}
 use denote.Enum.Declared.{tagOf}
@@ -17,15 +17,17 @@ use Rattle.peeling.specs.declared.Stop.the-variants as stop
 use Rattle.room.specs.declared.Session.{Session}
 use Rattle.parts.specs.declared.Place.{Place}
 use Rattle.parts.specs.Sides.{Switch, Side, Stands, settleSide, handList, withGiven}
-use Rattle.parts.specs.Areas.{origin, between, Areas, partAt}
-use Rattle.exchange.specs.declared.Round.{Round}
-use Rattle.exchange.specs.declared.Ending.{Ending}
-use Rattle.exchange.specs.declared.Ending.the-variants as end
-use Rattle.exchange.specs.Exchange.{Pair, pair, Ended, ended, thenB, settleBoth, handBoth, round, isOver, rounds, mostRounds, thenRounds, exchangeSides, switchOf, joinedSides, pairIn, roundOf, Left, left, leftBy, Both}
-use Rattle.exchange.proofs.Ending as ending
-use Rattle.exchange.proofs.Both.{settled-stands, Lies}
-use Rattle.exchange.proofs.Steps.{lies-start, lies-at}
-use Rattle.exchange.proofs.Gives.{filter-a, filter-b, given-stands, lies-pair, twelves-few}
+use Rattle.parts.specs.Areas.{between, Areas}
+use Rattle.ending.specs.declared.Round.{Round}
+use Rattle.ending.specs.declared.Ending.{Ending}
+use Rattle.ending.specs.declared.Ending.the-variants as end
+use Rattle.ending.specs.Over.{isOver, roundOf}
+use Rattle.rounds.specs.Rounds.{Pair, pair, Ended, ended, thenB, settleBoth, handBoth, round, rounds, mostRounds, thenRounds, exchangeSides}
+use Rattle.rounds.specs.Joined.{switchOf, pairIn, Left, left, leftBy, Both}
+use Rattle.ending.proofs.Ending as ending
+use Rattle.rounds.proofs.Both.{settled-stands, Lies}
+use Rattle.rounds.proofs.Steps.{lies-start, lies-at}
+use Rattle.rounds.proofs.Gives.{filter-a, filter-b, given-stands, lies-pair, twelves-few}
 
 -- ---- a round keeps both in their room
 record Stand (l : Layout) (A B : Switch) (p : Pair) : Type 0 where

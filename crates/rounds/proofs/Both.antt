@@ -1,21 +1,18 @@
 -- Two sessions beside each other: what a step on one leaves of both.
-use mathlib.Core.Path.{_≡_, refl, sym, ap, ap₂, subst, _∙_}
+use mathlib.Core.Path.{_≡_, sym, ap, ap₂, _∙_}
 use mathlib.Core.List.{List, [], _++_, append-nil}
-use Prim.Native.Nat.{ℕ, _+_, _-_, _*_, _≤_, _<_}
+use Prim.Native.Nat.{ℕ, _+_, _-_}
 use native.Mathlib.Omega.{arith}
-use lib.ListN.{length, take, drop, length-append, drop-of-length-le}
+use lib.ListN.{length, take, drop, drop-of-length-le}
 use lib.Seq.{take-at, drop-at}
 use Rattle.layout.specs.declared.Layout.{Layout}
-use Rattle.layout.specs.declared.Sizes.{Sizes}
-use Rattle.layout.specs.Sizes.{tableCells, filterBytes}
-use Rattle.marks.specs.Marks.{wordsFor}
 use Rattle.peeling.specs.declared.Stop.{Stop}
 use Rattle.settling.proofs.Laws.{settle-lasts}
 use Rattle.parts.specs.declared.Place.{Place}
-use Rattle.parts.specs.Sides.{Switch, Side, side, Stands, Rested, settleSide}
-use Rattle.parts.specs.Areas.{origin, placeAfter, between, laid, tableAt, listAt, withTable, withList, Areas, areas, partAt, withPart, Rest, rest, settlePart}
+use Rattle.parts.specs.Sides.{Switch, Side, Stands, settleSide}
+use Rattle.parts.specs.Areas.{origin, placeAfter, between, laid, tableAt, listAt, withTable, withList, Areas, partAt, withPart, Rest, rest, settlePart}
 use Rattle.parts.proofs.Areas.{Fills}
-use Rattle.exchange.specs.Exchange.{joinedTable, joinedList, joinedSides}
+use Rattle.rounds.specs.Joined.{joinedTable, joinedList, joinedSides}
 
 -- ---- two lists joined
 module _ (u v new : List ℕ) (i : ℕ) (first : length u ≡ i - 0) where

@@ -1,7 +1,7 @@
 -- A list handed over from one session to the other.
-use mathlib.Core.Path.{_≡_, refl, sym, ap, ap₂, subst, _∙_}
+use mathlib.Core.Path.{_≡_, refl, sym, ap, ap₂, _∙_}
 use mathlib.Core.List.{List, _++_}
-use mathlib.Core.Logic.{_⊎_, inl, inr}
+use mathlib.Core.Logic.{inl, inr}
 use Prim.Native.Nat.{ℕ, _+_, _-_, _*_, _≤_, _<_}
 use native.Mathlib.Nat.{mul-le-mul}
 use native.Mathlib.Omega.{arith}
@@ -17,12 +17,13 @@ use Rattle.table.specs.Table.{Tab}
 use Rattle.room.specs.declared.Session.{Session}
 use Rattle.parts.specs.declared.Place.{Place}
 use Rattle.parts.specs.Sides.{Switch, Side, Stands, Given, given, handKeys, handList, withGiven}
-use Rattle.parts.specs.Areas.{origin, placeAfter, between, laid, tableAt, listAt, withTable, withList, Areas, areas, partAt, withPart, givePart, Gives}
+use Rattle.parts.specs.Areas.{origin, placeAfter, between, laid, withTable, withList, Areas, areas, partAt, withPart, givePart, Gives}
 use Rattle.parts.proofs.Areas.{length-between, laid-same}
 use Rattle.parts.proofs.Hands.{keys-fits, keys-alike, twelves-list}
-use Rattle.exchange.specs.Exchange.{pair, settleBoth, handBoth, round, Left, leftBy, switchOf, joinedList, joinedSides, seam, roomEnd, pairIn, Both}
-use Rattle.exchange.proofs.Both.{Long, stands-long, Lies, lies-a, lies-b, lies-with-a, lies-with-b}
-use Rattle.exchange.proofs.Steps.{Numbers, numbers, inside-a, inside-b}
+use Rattle.rounds.specs.Rounds.{pair, settleBoth, handBoth, round}
+use Rattle.rounds.specs.Joined.{Left, leftBy, joinedList, pairIn, Both}
+use Rattle.rounds.proofs.Both.{stands-long, Lies, lies-a, lies-b, lies-with-a, lies-with-b}
+use Rattle.rounds.proofs.Steps.{numbers, inside-a, inside-b}
 
 -- ---- what the calls need
 module _ {l : Layout} {s t : Session} {p e : Place} {a b : ℕ} {r : Areas} (h : Both l s t p e a b r) (filter : List ℕ) (f : length filter ≡ e .filter) where

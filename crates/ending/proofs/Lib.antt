@@ -1,0 +1,3 @@
+-- Laws of how an exchange ends.
+pub mod Over
+pub mod Outcomes
