@@ -34,29 +34,9 @@ static uint8_t image[ELDERFLUTE_MOST_IMAGE_BYTES + 1];
 
 enum { PRINTED, REFUSED, FAILED };
 
-/* Words for the numbers that reading, opening and settling answer. */
-static const char *words(uint32_t number) {
-    switch (number) {
-    case ELDERFLUTE_LENGTH:
-        return "the image's length";
-    case ELDERFLUTE_CHECK:
-        return "a block's check does not fit its bytes";
-    case ELDERFLUTE_FORM:
-        return "a block's form";
-    case ELDERFLUTE_MIXED:
-        return "a later block has another salt or slot than the first";
-    case ELDERFLUTE_STALE:
-        return "the image is not of the wanted slot";
-    case ELDERFLUTE_DAMAGE:
-        return "the cells contradict each other";
-    default:
-        return "a number that include/elderflute.h explains";
-    }
-}
-
 static int refused(uint32_t number) {
     printf("refused %u\n", (unsigned)number);
-    fprintf(stderr, "flows: refused %u: %s\n", (unsigned)number, words(number));
+    fprintf(stderr, "flows: refused %u: %s\n", (unsigned)number, elderflute_words(number));
     return REFUSED;
 }
 

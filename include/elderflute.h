@@ -23,9 +23,6 @@
 extern "C" {
 #endif
 
-/* The version, as in the file VERSION. */
-#define ELDERFLUTE_VERSION "0.1.0"
-
 /* 01's numbers. */
 enum elderflute_number {
     ELDERFLUTE_DONE = 0,
@@ -46,6 +43,38 @@ enum elderflute_number {
     ELDERFLUTE_SLOTS_DIFFER = 15, /* exchange of two different slots */
     ELDERFLUTE_ROOM = 16          /* lent room of the wrong length */
 };
+
+/* What a number says, in words; the reason that a program gives its user. A number that this header does not know has words too. */
+static inline const char *elderflute_words(uint32_t number) {
+    static const char *const words[] = {
+        "done",
+        "length: the image is empty, no multiple of 512 bytes, over 40,960, or not what its sizes ask for",
+        "check: the bytes of a block do not fit its check",
+        "form: a field out of its range, a wrong kind or number, or a zero byte that is not zero",
+        "mixed: a block is of another salt or slot than block 0",
+        "stale: the image is not of the wanted slot",
+        "packet: it has no IPv4 header, or no ports where they must be",
+        "counter full: a cell of the flow can count no further",
+        "not a session: numbers and room are not what the calls left",
+        "hand-over: the received filter does not pass the key",
+        "hand-over: the key is listed already",
+        "hand-over: a cell of the key has no flow left",
+        "hand-over: as many flows as there are cells were handed over already",
+        "settle: the list is full",
+        "damage: the cells contradict each other",
+        "exchange: the two sessions are of different slots",
+        "room: lent memory of the wrong length",
+    };
+    return number < sizeof words / sizeof *words ? words[number] : "a number that this version does not know";
+}
+
+/*
+ * The version of this header, that of the file VERSION, in words and as one number: 1,000,000 times its first number, 1,000 times its second, and its
+ * third. elderflute_version is the number of the library that was linked: where it differs, header and library are not of one version.
+ */
+#define ELDERFLUTE_VERSION "0.1.0"
+#define ELDERFLUTE_VERSION_NUMBER 1000
+uint32_t elderflute_version(void);
 
 /* States of a report. */
 enum elderflute_state {
@@ -79,6 +108,15 @@ enum { ELDERFLUTE_KNOWN = 1, ELDERFLUTE_HANDED = 2 };
 #define ELDERFLUTE_RECORDS(n) (2 * (size_t)(n)) /* `counts` and `flags` */
 #define ELDERFLUTE_KEYS(n) (26 * (size_t)(n))
 #define ELDERFLUTE_LINES 181309
+
+/*
+ * The most stack that a call takes, in bytes, beside what its caller holds (tests/calls/stack.c measures it): the calls of a flowset and of an image up to
+ * elderflute_open; hand-over, settle, report and lines; the exchange; print. A thread that makes a call needs more than this.
+ */
+#define ELDERFLUTE_STACK_FLOWSET 2048
+#define ELDERFLUTE_STACK_SESSION 32768
+#define ELDERFLUTE_STACK_EXCHANGE 55296
+#define ELDERFLUTE_STACK_PRINT 131072
 
 /*
  * The key of a packet that starts at its IPv4 header, of any length: source address 4, destination 4, source port 2, destination port 2,
@@ -180,9 +218,21 @@ uint32_t elderflute_report(const uint32_t *numbers, size_t listed, size_t *figur
  * All that the printing program writes for its standard input (a slot, 4 bytes, high byte first, and an image), of any length. lines has
  * ELDERFLUTE_LINES bytes.
  * DONE: the first *written bytes of lines are the program's, also where they say `refused`; the others stay. ROOM.
- * The call takes about 100 KB of stack; the others take at most some 8 KB.
  */
 uint32_t elderflute_print(const uint8_t *input, size_t input_length, uint8_t *lines, size_t lines_length, size_t *written);
+
+/*
+ * The lines of a session as it stands: what the printing program writes of one that it has settled, so also `?` for an unknown count. lines has
+ * ELDERFLUTE_LINES bytes.
+ * DONE: the first *written bytes of lines are the session's; the others stay. NOT_SESSION for a size, ROOM for lines or for the session's, NOT_SESSION
+ * for the rest; tested in this order.
+ */
+uint32_t elderflute_lines(const uint32_t *numbers, size_t listed, uint8_t *lines, size_t lines_length, size_t *written, const uint8_t *filter,
+                          size_t filter_length, const uint8_t *xors, size_t xors_length, const uint16_t *flows, size_t flows_length,
+                          const uint32_t *packets, size_t packets_length, const uint16_t *unknowns, size_t unknowns_length,
+                          const uint16_t *positions, size_t positions_length, const uint64_t *marks, size_t marks_length,
+                          const uint8_t *keys, size_t keys_length, const uint32_t *counts, size_t counts_length, const uint8_t *flags,
+                          size_t flags_length);
 
 #ifdef __cplusplus
 }

@@ -7,7 +7,7 @@
 
 /// Bytes of a key: source address 4, destination 4, source port 2, destination port 2, protocol 1, high bytes first.
 pub const KEY_BYTES: usize = 13;
-/// Bytes that [`print`] is lent.
+/// Bytes that [`print`] and [`Session::lines`] are lent.
 pub const LINES: usize = 181_309;
 /// Bit of a listed flow's flags: its count is known.
 pub const KNOWN: u8 = 1;
@@ -84,11 +84,54 @@ impl Refusal {
         self as u32
     }
 
+    /// What it says, in words: those of `elderflute_words` in include/elderflute.h.
+    pub fn words(self) -> &'static str {
+        match self {
+            Length => {
+                "length: the image is empty, no multiple of 512 bytes, over 40,960, or not what its sizes ask for"
+            }
+            Check => "check: the bytes of a block do not fit its check",
+            Form => "form: a field out of its range, a wrong kind or number, or a zero byte that is not zero",
+            Mixed => "mixed: a block is of another salt or slot than block 0",
+            Stale => "stale: the image is not of the wanted slot",
+            NoKey => "packet: it has no IPv4 header, or no ports where they must be",
+            CounterFull => "counter full: a cell of the flow can count no further",
+            NotSession => "not a session: numbers and room are not what the calls left",
+            NotInFilter => "hand-over: the received filter does not pass the key",
+            Listed => "hand-over: the key is listed already",
+            EmptyCell => "hand-over: a cell of the key has no flow left",
+            TooMany => "hand-over: as many flows as there are cells were handed over already",
+            ListFull => "settle: the list is full",
+            Damage => "damage: the cells contradict each other",
+            SlotsDiffer => "exchange: the two sessions are of different slots",
+            Room => "room: lent memory of the wrong length",
+            Unknown => "a number that this version does not know",
+        }
+    }
+
     /// The refusal of a number; none for 0.
     pub fn of(number: u32) -> Option<Refusal> {
         let place = number.checked_sub(1)? as usize;
         Some(Refusal::ALL.get(place).copied().unwrap_or(Unknown))
     }
+}
+
+impl std::fmt::Display for Refusal {
+    fn fmt(&self, out: &mut std::fmt::Formatter) -> std::fmt::Result {
+        out.write_str(self.words())
+    }
+}
+
+impl std::error::Error for Refusal {}
+
+/// The version of this module, that of the file VERSION.
+pub const VERSION: &str = "0.1.0";
+/// The same as one number: 1,000,000 times its first number, 1,000 times its second, and its third.
+pub const VERSION_NUMBER: u32 = 1_000;
+
+/// The number of the library that was linked: where it is not [`VERSION_NUMBER`], module and library are not of one version.
+pub fn version() -> u32 {
+    unsafe { raw::elderflute_version() }
 }
 
 /// What a call's number says.
@@ -419,6 +462,41 @@ impl Session {
         let state = [State::Whole, State::Short, State::Stuck].get(state).copied().ok_or(Unknown)?;
         Ok(Report { listed, counted, open, state })
     }
+
+    /// Writes the session's lines, as the printing program does of one that it has settled, into [`LINES`] bytes, and answers how many these are.
+    pub fn lines(&self, lent: &Lent, lines: &mut [u8]) -> Result<usize, Refusal> {
+        let mut written = 0;
+        done(unsafe {
+            raw::elderflute_lines(
+                self.numbers().as_ptr(),
+                self.listed,
+                lines.as_mut_ptr(),
+                lines.len(),
+                &mut written,
+                lent.filter.as_ptr(),
+                lent.filter.len(),
+                lent.xors.as_ptr(),
+                lent.xors.len(),
+                lent.flows.as_ptr(),
+                lent.flows.len(),
+                lent.packets.as_ptr(),
+                lent.packets.len(),
+                lent.unknowns.as_ptr(),
+                lent.unknowns.len(),
+                lent.positions.as_ptr(),
+                lent.positions.len(),
+                lent.marks.as_ptr(),
+                lent.marks.len(),
+                lent.keys.as_ptr(),
+                lent.keys.len(),
+                lent.counts.as_ptr(),
+                lent.counts.len(),
+                lent.flags.as_ptr(),
+                lent.flags.len(),
+            )
+        })?;
+        Ok(written)
+    }
 }
 
 /// Why and where an exchange stopped.
@@ -480,6 +558,7 @@ pub fn print(input: &[u8], lines: &mut [u8]) -> Result<usize, Refusal> {
 /// The declarations of include/elderflute.h.
 mod raw {
     extern "C" {
+        pub fn elderflute_version() -> u32;
         pub fn elderflute_key(packet: *const u8, packet_length: usize, key: *mut u8) -> u32;
         pub fn elderflute_start(
             kf: u32,
@@ -661,6 +740,33 @@ mod raw {
             lines: *mut u8,
             lines_length: usize,
             written: *mut usize,
+        ) -> u32;
+        pub fn elderflute_lines(
+            numbers: *const u32,
+            listed: usize,
+            lines: *mut u8,
+            lines_length: usize,
+            written: *mut usize,
+            filter: *const u8,
+            filter_length: usize,
+            xors: *const u8,
+            xors_length: usize,
+            flows: *const u16,
+            flows_length: usize,
+            packets: *const u32,
+            packets_length: usize,
+            unknowns: *const u16,
+            unknowns_length: usize,
+            positions: *const u16,
+            positions_length: usize,
+            marks: *const u64,
+            marks_length: usize,
+            keys: *const u8,
+            keys_length: usize,
+            counts: *const u32,
+            counts_length: usize,
+            flags: *const u8,
+            flags_length: usize,
         ) -> u32;
     }
 }

@@ -1,6 +1,7 @@
 /*
  * Answers the requests of tests/PROTOCOL.md through include/elderflute.h: 2 and 4 to 12. All that is lent, the single numbers too, lies between
- * guard bytes; a line ends with ` guard` where a call changed one, and with ` kept` where it changed what a refusal keeps.
+ * guard bytes; a line ends with ` guard` where a call changed one, and with ` kept` where it changed what a refusal keeps. Beside each report the
+ * session's lines are asked for; a line ends with ` lines` where they are not what the report and the list say.
  */
 #include <stdio.h>
 #include <stdlib.h>
@@ -10,7 +11,7 @@
 
 enum { GUARD = 64, PATTERN = 0xa5 };
 
-static int broken, changed;
+static int broken, changed, other_lines;
 
 /* ---- lent buffers */
 
@@ -226,8 +227,51 @@ static void hand_over(struct session *s, const uint8_t *key, int with_listed) {
     take_back(lent_key);
 }
 
+static const char *const states[] = {"whole", "short", "stuck"};
+
+/* The lines of a session, by its figures and its list. */
+static size_t expected_lines(const struct session *s, const size_t *figures, char *to) {
+    const uint32_t *numbers = in(s->numbers);
+    char *at = to;
+    at += sprintf(at, "%u %u %zu %zu %zu %s\n", (unsigned)numbers[ELDERFLUTE_SLOT], (unsigned)numbers[ELDERFLUTE_SALT], figures[0], figures[1], figures[2],
+                  states[figures[3]]);
+    for (size_t i = 0; i < *listed_in(s); i++) {
+        const uint8_t *k = (const uint8_t *)in(s->memory.slice[KEYS]) + ELDERFLUTE_KEY_BYTES * i;
+        at += sprintf(at, "%u.%u.%u.%u %u %u.%u.%u.%u %u %u ", k[0], k[1], k[2], k[3], k[8] * 256u + k[9], k[4], k[5], k[6], k[7], k[10] * 256u + k[11],
+                      k[12]);
+        if (element(&s->memory, FLAGS, i) & ELDERFLUTE_KNOWN)
+            at += sprintf(at, "%u\n", (unsigned)element(&s->memory, COUNTS, i));
+        else
+            at += sprintf(at, "?\n");
+    }
+    return at - to;
+}
+
+static int sizes_are_good(const uint32_t *z) {
+    return z[0] >= 1 && z[0] <= 8 && z[1] >= 1 && z[1] <= 16 && z[2] >= 2 && z[2] <= 4 && z[3] >= 1 && z[3] <= 16;
+}
+
+/* Asks for the lines of a session whose report was answered with a number and figures; in room of the right length, and in too little. */
+static void check_lines(const struct session *s, uint32_t number, const size_t *figures) {
+    static char expected[ELDERFLUTE_LINES + 1];
+    struct lent lines = lend(ELDERFLUTE_LINES), less = lend(ELDERFLUTE_LINES - 1), written = lend(sizeof(size_t));
+    uint32_t short_of = sizes_are_good(in(s->numbers)) ? 16 : 8;
+    other_lines |= elderflute_lines(in(s->numbers), *listed_in(s), in(less), less.bytes, in(written), MEMORY(&s->memory)) != short_of;
+    must_be_kept(less);
+    must_be_kept(written);
+    other_lines |= elderflute_lines(in(s->numbers), *listed_in(s), in(lines), lines.bytes, in(written), MEMORY(&s->memory)) != number;
+    size_t n = number ? 0 : expected_lines(s, figures, expected);
+    if (number)
+        must_be_kept(written);
+    else
+        other_lines |= *(size_t *)in(written) != n || memcmp(in(lines), expected, n) != 0;
+    changed |= !is_pattern((uint8_t *)in(lines) + n, lines.bytes - n);
+    take_back(lines);
+    take_back(less);
+    take_back(written);
+}
+
 static void report(struct session *s, char between) {
-    static const char *const states[] = {"whole", "short", "stuck"};
     struct lent lent_figures = lend(ELDERFLUTE_FIGURES * sizeof(size_t));
     size_t *figures = in(lent_figures);
     uint32_t number = elderflute_report(in(s->numbers), *listed_in(s), figures, MEMORY(&s->memory));
@@ -236,6 +280,7 @@ static void report(struct session *s, char between) {
         printf("%c%zu%c%zu%c%zu%c%s", between, figures[0], between, figures[1], between, figures[2], between, states[figures[3]]);
     else
         must_be_kept(lent_figures);
+    check_lines(s, number, figures);
     take_back(lent_figures);
 }
 
@@ -503,7 +548,7 @@ static void print_input(struct bytes b) {
 /* ---- the stream */
 
 static void answer(int op, struct bytes b) {
-    broken = changed = 0;
+    broken = changed = other_lines = 0;
     switch (op) {
     case 2: key_of(b); break;
     case 4: encode(b); break;
@@ -517,7 +562,7 @@ static void answer(int op, struct bytes b) {
     case 12: print_input(b); break;
     default: printf("op");
     }
-    printf("%s%s\n", broken ? " guard" : "", changed ? " kept" : "");
+    printf("%s%s%s\n", broken ? " guard" : "", changed ? " kept" : "", other_lines ? " lines" : "");
 }
 
 #ifndef FUZZING

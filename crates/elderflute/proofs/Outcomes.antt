@@ -8,6 +8,8 @@ use Rattle.room.specs.Memory.{Memory}
 use Rattle.elderflute.specs.Flowset.{Keying, Working, Sealing}
 use Rattle.elderflute.specs.Images.{ReadLeft, Opening}
 use Rattle.elderflute.specs.Sessions.{Handing, Settling, Reporting, Printing}
+use Rattle.elderflute.proofs.elderflute_version.Kinds as version-kinds
+use Rattle.elderflute.proofs.elderflute_version.Reads as version
 use Rattle.elderflute.proofs.elderflute_key.Kinds as key-kinds
 use Rattle.elderflute.proofs.elderflute_key.Reads as key
 use Rattle.elderflute.proofs.elderflute_start.Kinds as start-kinds
@@ -31,6 +33,11 @@ use Rattle.elderflute.proofs.elderflute_report.Kinds as report-kinds
 use Rattle.elderflute.proofs.elderflute_report.Reads as report
 use Rattle.elderflute.proofs.elderflute_print.Kinds as print-kinds
 use Rattle.elderflute.proofs.elderflute_print.Reads as print
+use Rattle.elderflute.proofs.elderflute_lines.Kinds as lines-kinds
+use Rattle.elderflute.proofs.elderflute_lines.Reads as lines
+
+pub version-determined : Determined _ version-kinds.ps version-kinds.r version.Asked version.Learnt
+version-determined κs a p z z′ ws ws′ e e′ = (e ∙ sym e′, refl)
 
 pub key-determined : Determined _ key-kinds.ps key-kinds.r key.Asked key.Learnt
 key-determined κs a p z z′ ws ws′ e e′ =
@@ -103,6 +110,12 @@ pub print-determined : Determined _ print-kinds.ps print-kinds.r print.Asked pri
 print-determined κs a p z z′ ws ws′ e e′ = let f = e ∙ sym e′ in (
   ap (λ (x : Printing). x .number) f,
   both refl (ap (λ (x : Printing). (x .lines, (x .written, tt))) f),
+)
+
+pub lines-determined : Determined _ lines-kinds.ps lines-kinds.r lines.Asked lines.Learnt
+lines-determined κs a p z z′ ws ws′ e e′ = let f = e ∙ sym e′ in (
+  ap (λ (x : Printing). x .number) f,
+  both refl (both refl (both (ap (λ (x : Printing). x .lines) f) (both (ap (λ (x : Printing). x .written) f) refl))),
 )
 
 pub exchange-determined : Determined _ exchange-kinds.ps exchange-kinds.r exchange.Asked exchange.Learnt

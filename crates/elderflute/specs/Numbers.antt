@@ -8,6 +8,10 @@ use Rattle.summary.specs.declared.State.{State}
 use Rattle.summary.specs.declared.State.the-variants.{Stuck, Short, Whole}
 use Rattle.summary.specs.declared.Report.{Report}
 
+-- version 0.1.0 as one number: 1,000,000 times its first number, 1,000 times its second, and its third
+abbrev pub versionNumber : ℕ
+versionNumber = 1000
+
 abbrev pub sizesOf : ℕ → ℕ → ℕ → ℕ → Sizes
 sizesOf kf f k q = record { kf = kf; f = f; k = k; q = q }
 

@@ -5,7 +5,8 @@ use Prim.Native.Nat.{ℕ}
 use lib.Dec.{eqb}
 use lib.ListN.{length}
 use lib.Seq.{sets}
-use Rattle.layout.specs.Sizes.{ipv4Layout}
+use Rattle.layout.specs.Sizes.{inRange, ipv4Layout}
+use Rattle.room.specs.declared.Session.{Session}
 use Rattle.room.specs.Memory.{Memory}
 use Rattle.session.specs.declared.HandOver.{HandOver}
 use Rattle.session.specs.declared.HandOver.the-variants as over
@@ -14,7 +15,7 @@ use Rattle.session.specs.declared.Settled.the-variants as settled
 use Rattle.session.specs.declared.Reported.{Reported}
 use Rattle.session.specs.declared.Reported.the-variants as reported
 use Rattle.session.specs.Calls.{handOver, handOverNumber, settleOf, settleNumber, reportOn, reportNumber}
-use Rattle.printing.specs.Print.{mostWritten, printed}
+use Rattle.printing.specs.Print.{mostWritten, listedLines, printed}
 use Rattle.elderflute.specs.Numbers.{sessionOf, figuresOf}
 
 -- ---- hand-over: 01's number, how many flows are then listed, and the lent room
@@ -106,3 +107,20 @@ unfoldable pub printCall : List ℕ → List ℕ → ℕ → Printing
 printCall input lines written =
     cond (not (eqb (length lines) mostWritten)) (printing 16 lines written)
     (printing 0 (sets lines 0 (printed input)) (length (printed input)))
+
+-- ---- the lines of a session as it stands: the same, by what the report answers and the text of its lines
+abbrev pub linesLeave : Reported → List ℕ → List ℕ → ℕ → Printing
+linesLeave (reported.Told t) text lines written = printing (reportNumber (reported.Told t)) (sets lines 0 text) (length text)
+linesLeave reported.NotSession text lines written = printing (reportNumber reported.NotSession) lines written
+linesLeave reported.BadRoom text lines written = printing (reportNumber reported.BadRoom) lines written
+
+-- in 01's order: sizes (8), room (16: that for the lines, then the session's), the rest of the test of 8; else what 01's printing program prints of a
+-- session: "a line of slot, salt, listed, counted, open and state; then per listed flow, in list order: .."
+unfoldable pub linesOf : Session → List ℕ → ℕ → Memory → Printing
+linesOf s lines written m =
+    cond (not (inRange (s .sizes))) (printing 8 lines written)
+    (cond (not (eqb (length lines) mostWritten)) (printing 16 lines written)
+    (linesLeave (reportOn ipv4Layout s m) (listedLines (s .slot) (s .salt) (s .listed) (m .table .flows) (m .list)) lines written))
+
+abbrev pub linesCall : List ℕ → ℕ → List ℕ → ℕ → Memory → Printing
+linesCall numbers listed lines written m = linesOf (sessionOf numbers listed) lines written m

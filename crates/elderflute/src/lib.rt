@@ -10,12 +10,13 @@ ghost use Rattle.encoder.specs.Encoder.{startNumber, takeNumber};
 ghost use Rattle.sealing.specs.Seal.{sealNumber};
 ghost use Rattle.reading.specs.Read.{readBlock};
 ghost use Rattle.opening.specs.Open.{openBlock};
-ghost use Rattle.elderflute.specs.Numbers.{sizesOf, sessionOf, numbersOf, stateNumber, figuresOf};
+ghost use Rattle.elderflute.specs.Numbers.{versionNumber, sizesOf, sessionOf, numbersOf, stateNumber, figuresOf};
 ghost use Rattle.elderflute.specs.Flowset.{keying, keyCall, working, startCall, packetCall, sealing, sealCall};
 ghost use Rattle.elderflute.specs.Images.{ReadSized, OpenSized, readLeft, readLeaves, readCall, openLeft, openLeaves, opening, openCall};
 ghost use Rattle.elderflute.specs.Sessions.{handLeft, handLeaves, handing, handOverCall, settleLeft, settleLeaves, settling, settleCall};
-ghost use Rattle.elderflute.specs.Sessions.{reporting, reportLeaves, reportCall, printing, printCall};
 ghost use Rattle.elderflute.specs.Exchanges.{exchangeLeft, exchangeLeaves, exchanging, exchangeCall};
+ghost use Rattle.elderflute.specs.Sessions.{reporting, reportLeaves, reportCall, printing, printCall, linesCall};
+ghost use Rattle.session.specs.Calls.{reportNumber};
 use encoder::Started;
 use encoder::Taken;
 use exchange::Exchanged;
@@ -30,6 +31,16 @@ use session::Reported;
 use session::Settled;
 use summary::Report;
 use summary::State;
+
+// ---- the version
+
+// The version of the file VERSION as one number: 1,000,000 times its first number, 1,000 times its second, and its third.
+#[no_mangle]
+pub extern "C" fn elderflute_version() -> u32
+    ensures { λ r. ⌜ r ≡ versionNumber ⌝ }
+{
+    1000
+}
 
 // ---- the numbers of a session
 
@@ -611,5 +622,65 @@ pub extern "C" fn elderflute_print(input: &[u8], lines: &mut [u8], written: &mut
         return 16;
     }
     *written = printing::print(input, lines);
+    0
+}
+
+fn report_number(a: Reported) -> u32
+    ensures { λ n. ⌜ n ≡ reportNumber a ⌝ }
+{
+    match a {
+        Reported::Told(_) => 0,
+        Reported::NotSession => 8,
+        Reported::BadRoom => 16,
+    }
+}
+
+// Writes the lines of a session as it stands: those that the printing program prints of one that it has settled.
+#[no_mangle]
+pub extern "C" fn elderflute_lines(
+    numbers: &[u32; 6],
+    listed: usize,
+    lines: &mut [u8],
+    written: &mut usize,
+    filter: &[u8],
+    xors: &[u8],
+    flows: &[u16],
+    packets: &[u32],
+    unknowns: &[u16],
+    positions: &[u16],
+    marks: &[u64],
+    keys: &[u8],
+    counts: &[u32],
+    flags: &[u8],
+) -> u32
+    ensures { λ r. ⌜ printing r (now (lines .exit)) (now (written .exit))
+        ≡ linesCall (now (numbers .entry)) listed (now (lines .entry)) (now (written .entry)) (memory (now (filter .entry))
+        (tab (now (xors .entry)) (now (flows .entry)) (now (unknowns .entry)) (now (positions .entry)) (now (marks .entry)))
+        (now (packets .entry)) (records (now (keys .entry)) (now (counts .entry)) (now (flags .entry)))) ⌝ }
+{
+    let s = session_of(numbers, listed);
+    if !layout::in_range(s.sizes) {
+        return 8;
+    }
+    if lines.len() != printing::MOST {
+        return 16;
+    }
+    let a = session::report(
+        s,
+        filter,
+        xors,
+        flows,
+        packets,
+        unknowns,
+        positions,
+        marks,
+        keys,
+        counts,
+        flags,
+    );
+    let Reported::Told(_) = a else {
+        return report_number(a);
+    };
+    *written = printing::put_listed(lines, s.slot, s.salt, s.listed, flows, keys, counts, flags);
     0
 }

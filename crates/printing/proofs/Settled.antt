@@ -25,12 +25,16 @@ use Rattle.settling.specs.Settle as settling
 use Rattle.settling.specs.Settle.{stopAfter, afterCounts, thenCounts}
 use Rattle.room.specs.declared.Session.{Session}
 use Rattle.room.specs.Memory.{Memory, roomFits}
+use Rattle.room.specs.Test.{tested}
 use Rattle.room.proofs.Laws.{tested-sizes, tested-room, tested-rest}
 use Rattle.test8.specs.Test8.{isSession}
 use Rattle.session.specs.declared.Settled.{Settled}
 use Rattle.session.specs.declared.Settled.the-variants as settled
-use Rattle.session.specs.Calls.{Settling, settlingTo, settleAnswer, settleOf, settleNumber, indexOf}
-use Rattle.session.proofs.Answers.{Passes, rooms, passes-fits}
+use Rattle.session.specs.declared.Reported.the-variants as reported
+use Rattle.session.specs.Calls.{Settling, settlingTo, settleAnswer, settleLeaves, settleOf, settleNumber, reportOn, reportNumber, indexOf}
+use Rattle.summary.specs.declared.Report.{Report}
+use Rattle.summary.specs.Report.{reportOf}
+use Rattle.session.proofs.Answers.{Passes, rooms, listed-high, passes-fits}
 use Rattle.session.proofs.Laws.{settle-passes}
 use Rattle.session.proofs.Settled as declared
 use Rattle.lines.specs.Text.{refusedLine}
@@ -65,18 +69,30 @@ module _ (l : Layout) (s : Session) (m : Memory) where
   not-done : {A : Type 0} (a : Settled) {n : ℕ} → 0 < settleNumber a → settleOf l s m ≡ settlingTo a m → settleOf l s m .answer ≡ settled.Done n → A
   not-done a h r e = absurd (omega (arith, ap settleNumber (ap (λ (x : Settling). x .answer) (sym r) ∙ e)))
 
-  done-passes : {n : ℕ} → settleOf l s m .answer ≡ settled.Done n → Passes l s m
-  unfolding settleOf
-  done-passes e = elim (split (inRange (s .sizes))) [
-    | inr p ↦ not-done settled.NotSession (omega arith) (tested-sizes l s m _ _ _ p) e
+  -- what is neither of the tests' two refusals is answered of a session that passes them
+  else-passes : {A : Type 0} (x y w : A) {r : A} → tested l s m x y w ≡ r → (x ≡ r → ⊥) → (y ≡ r → ⊥) → Passes l s m
+  else-passes x y w e f g = elim (split (inRange (s .sizes))) [
+    | inr p ↦ absurd (f (sym (tested-sizes l s m _ _ _ p) ∙ e))
     | inl p ↦ elim (split (roomFits l (s .sizes) m)) [
-      | inr q ↦ not-done settled.BadRoom (omega arith) (tested-room l s m _ _ _ p q) e
+      | inr q ↦ absurd (g (sym (tested-room l s m _ _ _ p q) ∙ e))
       | inl q ↦ elim (split (isSession l (s .sizes) (s .salt) (s .listed) (m .table) (m .list))) [
-        | inr o ↦ not-done settled.NotSession (omega arith) (tested-rest l s m _ _ _ p q o) e
+        | inr o ↦ absurd (f (sym (tested-rest l s m _ _ _ p q o) ∙ e))
         | inl o ↦ record { sizes = p; room = q; rest = o }
       ]
     ]
   ]
+
+  done-passes : {n : ℕ} → settleOf l s m .answer ≡ settled.Done n → Passes l s m
+  unfolding settleOf
+  done-passes e =
+      else-passes (settlingTo settled.NotSession m) (settlingTo settled.BadRoom m) (settleLeaves m end) refl
+      (λ q. not-done settled.NotSession (omega arith) (sym q) e) (λ q. not-done settled.BadRoom (omega arith) (sym q) e)
+
+  told-passes : {t : Report} → reportOn l s m ≡ reported.Told t → Passes l s m
+  unfolding reportOn
+  told-passes e =
+      else-passes reported.NotSession reported.BadRoom (reported.Told (reportOf (s .listed) (m .table .flows) (m .list .flags))) e
+      (λ q. absurd (omega (arith, ap reportNumber q))) (λ q. absurd (omega (arith, ap reportNumber q)))
 
   done-high : {n : ℕ} → Lays l → settleOf l s m .answer ≡ settled.Done n → n ≤ 2 * tableCells l (s .sizes)
   done-high {n} lays e =
@@ -98,6 +114,23 @@ pub record Listed (n : ℕ) (m : Memory) : Type 0 where
   pub counts : n ≤ length (m .list .counts)
   pub flags : n ≤ length (m .list .flags)
 
+room-listed : (s : Session) (m : Memory) {n : ℕ} → Passes ipv4Layout s m → n ≤ 2 * tableCells ipv4Layout (s .sizes) → Listed n m
+room-listed s m p h =
+    let r = rooms ipv4Layout s m lays-ipv4 p in
+    let t = table-high ipv4Layout (s .sizes) lays-ipv4 (r .table .ranged) in
+    record {
+      few = omega arith;
+      cells = omega (arith, r .table .flows-fit);
+      keys = omega (arith, r .room .keys-fit);
+      counts = omega (arith, r .room .counts-fit);
+      flags = omega (arith, r .room .flags-fit);
+    }
+
+-- a session that is reported on has them too
+pub told-listed : (s : Session) (m : Memory) {t : Report} → reportOn ipv4Layout s m ≡ reported.Told t → Listed (s .listed) m
+told-listed s m e =
+    let p = told-passes ipv4Layout s m e in room-listed s m p (listed-high ipv4Layout s m lays-ipv4 p)
+
 refused-are : (slot salt : ℕ) (m : Memory) (e : Settled) → OneOf (1 ∷ 2 ∷ 3 ∷ 4 ∷ []) (tagOf declared.the-type e)
     → refusedLine (settleNumber e) ≡ settledLines slot salt m e
 unfolding settledLines
@@ -112,16 +145,7 @@ module _ (s : Session) (m : Memory) {e : Settled} {m′ : Memory} (q : settlingT
   pub session-listed : {n : ℕ} → e ≡ settled.Done n → Listed n m
   session-listed d =
       let f = ap (λ (x : Settling). x .answer) (sym q) ∙ d in
-      let h = done-high ipv4Layout s m lays-ipv4 f in
-      let r = rooms ipv4Layout s m lays-ipv4 (done-passes ipv4Layout s m f) in
-      let t = table-high ipv4Layout (s .sizes) lays-ipv4 (r .table .ranged) in
-      record {
-        few = omega arith;
-        cells = omega (arith, r .table .flows-fit);
-        keys = omega (arith, r .room .keys-fit);
-        counts = omega (arith, r .room .counts-fit);
-        flags = omega (arith, r .room .flags-fit);
-      }
+      room-listed s m (done-passes ipv4Layout s m f) (done-high ipv4Layout s m lays-ipv4 f)
 
   lines-are : settledLines (s .slot) (s .salt) m′ e ≡ sessionLines s m
   unfolding sessionLines

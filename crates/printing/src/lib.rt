@@ -66,7 +66,7 @@ fn put_records(
 }
 
 // Writes all lines where n flows are listed.
-fn put_listed(
+pub fn put_listed(
     out: &mut [u8],
     slot: u32,
     salt: u32,

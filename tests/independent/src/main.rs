@@ -26,6 +26,7 @@ mod layout;
 mod lent;
 mod lent_session;
 mod marked;
+mod measures;
 mod memory;
 mod places;
 mod plot;
@@ -72,6 +73,7 @@ const USAGE: &str = "usage: independent answer < REQUESTS
        independent store-printing FOLDER
        independent print < SLOT_AND_IMAGE
        independent sizing SEED RUNS [PLOT.svg]
+       independent measure loads|salts|sharing|missed|sizes SEED RUNS
        independent selftest";
 
 /// From so many requests on sessions on, no answer may be missing.
@@ -138,6 +140,11 @@ fn run(words: &[&str]) -> io::Result<bool> {
         ["print"] => print_flows().map(|()| true),
         ["sizing", seed, runs] => print_sizing(number(seed)?, number(runs)?, None),
         ["sizing", seed, runs, path] => print_sizing(number(seed)?, number(runs)?, Some(path)),
+        ["measure", what, seed, runs] => {
+            let text = measures::measure(what, number(seed)?, number(runs)?.max(1) as usize);
+            let text = text.ok_or_else(|| io::Error::other(USAGE))?;
+            io::stdout().lock().write_all(text.as_bytes()).map(|()| true)
+        }
         ["selftest"] => Ok(selftest::selftest()),
         _ => Err(io::Error::other(USAGE)),
     }

@@ -75,9 +75,9 @@ fn decode_line(random: &mut Random, sizes: Sizes, percent: usize, runs: usize) -
 }
 
 /// Numbered packets of a kind of traffic.
-type Keys = fn(u32) -> Ipv4;
+pub type Keys = fn(u32) -> Ipv4;
 
-const STRUCTURED: [(&str, Keys); 4] = [
+pub const STRUCTURED: [(&str, Keys); 4] = [
     ("consecutive source addresses", |n| Ipv4::with_ports(17, 0xc0a8_0a00 + n, 0xc0a8_0a0a, (20_202, 50_000))),
     ("consecutive destination ports", |n| Ipv4::with_ports(17, 0xc0a8_0a15, 0xc0a8_0a0a, (20_202, 50_000 + n as u16))),
     ("addresses and ports together", |n| Ipv4::with_ports(17, 0xc0a8_0a00 + n, 0xc0a8_0a0a, (20_202, 50_000 + n as u16))),
@@ -112,7 +112,7 @@ fn is_whole(session: &Session<Marked>) -> bool {
     session.report().is_ok_and(|report| report.state == State::Whole)
 }
 
-fn random_packets(random: &mut Random, flows: usize) -> Vec<Vec<u8>> {
+pub fn random_packets(random: &mut Random, flows: usize) -> Vec<Vec<u8>> {
     let mut seen = BTreeSet::new();
     while seen.len() < flows {
         let ports = (random.u16(), random.u16());
