@@ -6,12 +6,13 @@
 .POSIX:
 PREFIX = /usr/local
 DESTDIR =
+CC = cc
 PROGRAMS = report encode
 to = $(DESTDIR)$(PREFIX)
 
 all:
 	sh tests/build-install $(PROGRAMS)
-	$(CC) -std=c11 -O2 -Iinclude tools/images.c target/install/libelderflute.a -o target/install/images
+	$(CC) -std=c11 -Wall -Wextra -O2 -Iinclude tools/images.c target/install/libelderflute.a -o target/install/images
 
 install: all
 	case '$(PREFIX)' in /*) ;; *) echo 'PREFIX is a path from / on' >&2; exit 2 ;; esac

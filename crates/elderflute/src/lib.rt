@@ -1,6 +1,6 @@
 // The library for C and Rust: every call of 01 under a name of its own, over numbers, pointers to a few numbers, and slices.
-// Each function makes one call of the crates below and puts its answer into 01's number and what is lent for the rest. It rests on packet, encoder,
-// sealing, reading, session and printing for the calls.
+// Each function makes one call of the crates below, `elderflute_lines` the report and the printed lines, and puts its answer into 01's number and what is
+// lent for the rest. It rests on packet, encoder, sealing, reading, session and printing for the calls.
 ghost use mathlib.Core.Path.{_≡_};
 ghost use Rattle.layout.specs.Sizes.{Ranged};
 ghost use Rattle.list.specs.Records.{records};
@@ -14,9 +14,9 @@ ghost use Rattle.elderflute.specs.Numbers.{versionNumber, sizesOf, sessi
 ghost use Rattle.elderflute.specs.Flowset.{keying, keyCall, working, startCall, packetCall, sealing, sealCall};
 ghost use Rattle.elderflute.specs.Images.{ReadSized, OpenSized, readLeft, readLeaves, readCall, openLeft, openLeaves, opening, openCall};
 ghost use Rattle.elderflute.specs.Sessions.{handLeft, handLeaves, handing, handOverCall, settleLeft, settleLeaves, settling, settleCall};
-ghost use Rattle.elderflute.specs.Exchanges.{exchangeLeft, exchangeLeaves, exchanging, exchangeCall};
 ghost use Rattle.elderflute.specs.Sessions.{reporting, reportLeaves, reportCall, printing, printCall, linesCall};
 ghost use Rattle.session.specs.Calls.{reportNumber};
+ghost use Rattle.elderflute.specs.Exchanges.{exchangeLeft, exchangeLeaves, exchanging, exchangeCall};
 use encoder::Started;
 use encoder::Taken;
 use exchange::Exchanged;
