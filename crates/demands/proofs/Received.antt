@@ -16,13 +16,15 @@ use Rattle.marks.proofs.Laws.{words-put}
 use Rattle.table.specs.Table.{pureAt}
 use Rattle.block.specs.Block.{imageOf, zeroBytes}
 use Rattle.reading.specs.Read.{readOf, cellsIn, filterIn}
-use Rattle.sealing.specs.Seal.{Sealable, sealOf, sealRooms}
+use Rattle.sealing.specs.Seal.{Sealable, sealing, sealOf, sealRooms}
+use Rattle.sealing.specs.declared.Sealed.the-variants.{Done}
 use Rattle.reading.specs.declared.Reading.{Reading}
 use Rattle.reading.specs.declared.Reading.the-variants as read
 use Rattle.sealing.proofs.Answers.{seal-done}
 use Rattle.image.proofs.Back.{read-back}
 use Rattle.image.proofs.Blocks.{length-image}
-use Rattle.opening.specs.Open.{marksOf, openedMemory}
+use Rattle.opening.specs.Open.{marksOf, openedMemory, opening, openOf}
+use Rattle.opening.specs.declared.Opened.the-variants.{Open}
 use Rattle.opening.proofs.Answers.{opened-rooms, opened-session, open-done, open-read}
 use Rattle.room.specs.declared.Session.{Session}
 use Rattle.room.specs.Memory.{Memory, Rooms}
@@ -119,28 +121,39 @@ module _ (l : Layout) (lays : Lays l) (z : Sizes) (salt slot : ℕ) (m : encoder
   received-switch = ap (switchAt l) live-is
       ∙ opened-switch l z lays written (ap length (back .2) ∙ sealable .cells-length) salt slot ∙ ap (switchOf l z salt) (back .1)
 
--- Theorem: every flowset taken since a start, in any sizes that are in range, is sealed, read and opened in room of the right lengths
-pub goes-through : (l : Layout) → Lays l → (z : Sizes) → Ranged z → (salt slot : ℕ) → salt < 2 ^ 32 → slot < 2 ^ 32
-    → (m : encoder.Memory) (taken : List Taken) → encoder.Means l z salt m taken
-    → (imageRoom : List ℕ) → length imageRoom ≡ blocks z * 512 → (room : Memory) → Rooms l z room
-    → Received l z salt slot m (openedLive l z salt slot (imageOf l z salt slot (m .filter) (m .cells)))
-unfolding sealOf sealRooms zeroBytes
-goes-through l lays z r salt slot p q m taken means imageRoom e room f =
-    let s : Sealable l z (m .filter) (m .cells) =
-    record { sizes = r; filter-length = means .lent .filter-length; cells-length = means .lent .cells-length; zeros = means .zero-bytes } in
-    let image = imageOf l z salt slot (m .filter) (m .cells) in
-    record {
-      salt-fits = p;
-      slot-fits = q;
-      imageRoom = imageRoom;
-      image = image;
-      room = room;
-      sealed = rw (
-        range-test z r,
-        eq-eqb (length (m .filter)) (filterBytes z) (means .lent .filter-length),
-        eq-eqb (length (m .cells)) (cellBytes l z) (means .lent .cells-length),
-        eq-eqb (length imageRoom) (blocks z * 512) e,
-        means .zero-bytes,
-      );
-      opened = open-read l image slot room z salt (read-back l lays z (m .filter) (m .cells) s salt slot p q .0) (rooms-asked l z lays r room f);
-    }
+-- ---- that it always goes so
+module _ (l : Layout) (lays : Lays l) (z : Sizes) (r : Ranged z) (salt slot : ℕ) (p : salt < 2 ^ 32) (q : slot < 2 ^ 32)
+    (m : encoder.Memory) (taken : List Taken) (means : encoder.Means l z salt m taken) where
+  abbrev pub sealedImage : List ℕ
+  sealedImage = imageOf l z salt slot (m .filter) (m .cells)
+
+  pub seals : (imageRoom : List ℕ) → length imageRoom ≡ blocks z * 512 → sealOf l z salt slot (m .filter) (m .cells) imageRoom ≡ sealing Done sealedImage
+  unfolding sealOf sealRooms zeroBytes
+  seals imageRoom e = rw (
+    range-test z r,
+    eq-eqb (length (m .filter)) (filterBytes z) (means .lent .filter-length),
+    eq-eqb (length (m .cells)) (cellBytes l z) (means .lent .cells-length),
+    eq-eqb (length imageRoom) (blocks z * 512) e,
+    means .zero-bytes,
+  )
+
+  pub opens : (room : Memory) → Rooms l z room → let v = openedLive l z salt slot sealedImage in
+      openOf l sealedImage slot room ≡ opening (Open (v .numbers)) (v .room)
+  unfolding zeroBytes
+  opens room f =
+      let s : Sealable l z (m .filter) (m .cells) =
+      record { sizes = r; filter-length = means .lent .filter-length; cells-length = means .lent .cells-length; zeros = means .zero-bytes } in
+      open-read l sealedImage slot room z salt (read-back l lays z (m .filter) (m .cells) s salt slot p q .0) (rooms-asked l z lays r room f)
+
+  -- Theorem: every flowset taken since a start, in any sizes that are in range, is sealed, read and opened in room of the right lengths
+  pub goes-through : (imageRoom : List ℕ) → length imageRoom ≡ blocks z * 512 → (room : Memory) → Rooms l z room
+      → Received l z salt slot m (openedLive l z salt slot sealedImage)
+  goes-through imageRoom e room f = record {
+    salt-fits = p;
+    slot-fits = q;
+    imageRoom = imageRoom;
+    image = sealedImage;
+    room = room;
+    sealed = seals imageRoom e;
+    opened = opens room f;
+  }

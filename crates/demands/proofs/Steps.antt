@@ -1,5 +1,6 @@
 -- Each call of 01 on a session that passes the test is the theory's call on what is seen of it, and leaves a session that passes.
 use mathlib.Core.Path.{_≡_, refl, sym, ap, ap₂, subst, _∙_}
+use mathlib.Core.Bool.{true, false}
 use mathlib.Core.List.{List, [], _∷_}
 use Prim.Native.Nat.{ℕ, _+_}
 use native.Mathlib.Omega.{arith}
@@ -20,11 +21,14 @@ use Rattle.handing.specs.declared.Handed.{Handed}
 use Rattle.handing.specs.declared.Handed.the-variants as handed
 use Rattle.handing.specs.Hand as handing
 use Rattle.handing.specs.Hand.{takenBy}
-use Rattle.session.specs.Calls.{indexOf, handAnswer, handOver, handOverNumber, settleOf, settleNumber, settleAnswer}
+use Rattle.session.specs.Calls.{indexOf, handAnswer, handOver, handOverNumber, Settling, settlingTo, settleLeaves, settleOf, settleNumber, settleAnswer}
 use Rattle.theory.specs.Flow.{Key}
+use Rattle.theory.specs.Session.{listed, handedOf, hasEmptyCell}
 use Rattle.theory.specs.Settle.{stopNumber}
 use Rattle.theory.specs.HandOver as theory
+use Rattle.theory.proofs.HandOver.{hand-edge}
 use Rattle.link.specs.Answers.{stopOf}
+use Rattle.link.proofs.Again.{session-still}
 use Rattle.demands.specs.Calls.{Live, live, withListed, afterHand, afterSettle, callOn, callsOn, KeysFit, viewed, switchAt, Passing}
 use Rattle.demands.proofs.Lists.{Shows, settle-shows, settle-stops, hand-shows, hand-number}
 
@@ -101,6 +105,15 @@ module _ (l : Layout) (v : Live) (p : Passing l v) where
     hand-over-number = rw (hand-over-passes l s m tests-pass x) (same-number (s .listed) (handed-on .answer)
         ∙ hand-number l z (s .salt) (m .filter) (s .listed) (m .table) (m .packets) (m .list) (p .lent) (p .passes) (indexOf l s m) x fits)
 
+    -- Theorem: 01 'Both sides of each edge': "Hand-over N succeeds, N + 1 is 12", of a key that 9, 10 and 11 let pass
+    pub hand-over-edge : let w = switchAt l v in let u = viewed l v in
+        w .passes x ≡ true → listed u x ≡ false → hasEmptyCell (w .size) (w .has) (u .cells) x ≡ false
+        → (length (handedOf (u .list)) + 1 ≡ w .size → handOverNumber (handOver l s x m .answer) ≡ 0)
+        × (length (handedOf (u .list)) ≡ w .size → handOverNumber (handOver l s x m .answer) ≡ 12)
+    hand-over-edge a b c =
+        let e = hand-edge (switchAt l v) x (viewed l v) a b c in
+        (λ q. hand-over-number ∙ e .0 q, λ q. hand-over-number ∙ e .1 q)
+
     same-numbers : {n : ℕ} → n ≡ s .listed → s ≡ withListed s n
     same-numbers e = ap (withListed s) (sym e)
 
@@ -120,6 +133,29 @@ module _ (l : Layout) (v : Live) (p : Passing l v) where
     pub hand-follows : Follows l v (theory.handOver (switchAt l v) x (viewed l v)) (callOn l (theory.hand x) v)
     hand-follows = subst (Follows l v (theory.handOver (switchAt l v) x (viewed l v))) (sym hand-live)
         (followed (hand-shows l z (s .salt) (m .filter) (s .listed) (m .table) (m .packets) (m .list) (p .lent) (p .passes) (indexOf l s m) x fits))
+
+-- ---- settling again
+module _ (l : Layout) (v : Live) (p : Passing l v) where
+  abbrev ended : settling.Settled
+  ended = settled l v p
+
+  -- what a settling leaves
+  abbrev left : Live
+  left = live (withListed (v .numbers) (listedAt (ended .answer))) (memory (v .room .filter) (ended .table) (ended .packets) (ended .list))
+
+  left-passes : Passes l (left .numbers) (left .room)
+  left-passes = tests-pass l left (subst (Passing l) (settle-live l v p) (settle-follows l v p .passing))
+
+  -- Theorem: settling what a settling left answers the same, 14 with its cell too, and changes no lent memory; on any session that passes the test
+  pub settle-again : let u = callOn l theory.settling v in settleOf l (u .numbers) (u .room) ≡ settlingTo (settleOf l (v .numbers) (v .room) .answer) (u .room)
+  settle-again =
+      let s = v .numbers in
+      let m = v .room in
+      subst (λ (u : Live). settleOf l (u .numbers) (u .room) ≡ settlingTo (settleOf l s m .answer) (u .room)) (sym (settle-live l v p))
+      (settle-passes l (left .numbers) (left .room) left-passes
+      ∙ ap (settleLeaves (left .room))
+      (session-still l (s .sizes) (s .salt) (s .listed) (m .table) (m .packets) (m .list) (indexOf l s m) (indexOf l (left .numbers) (left .room)) (p .lent) (p .passes))
+      ∙ ap (λ (e : Settling). settlingTo (e .answer) (left .room)) (sym (settle-passes l s m (tests-pass l v p))))
 
 -- ---- calls in order
 follows-one : (l : Layout) (a : theory.Call) (later : List theory.Call) (v u t : Live) → Follows l v (theory.call (switchAt l v) a (viewed l v)) u

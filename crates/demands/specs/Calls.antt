@@ -1,19 +1,21 @@
 -- The calls of 01 one after the other, each on the numbers and the lent room that the call before it left.
 use mathlib.Core.Path.{_≡_}
-use mathlib.Core.Bool.{true}
+use mathlib.Core.Bool.{true, cond}
 use mathlib.Core.List.{List, [], _∷_}
 use Prim.Native.Nat.{ℕ}
+use lib.Dec.{eqb}
 use lib.ListN.{length}
 use Rattle.layout.specs.declared.Layout.{Layout}
 use Rattle.layout.specs.Sizes.{filterBytes}
 use Rattle.room.specs.declared.Session.{Session}
 use Rattle.room.specs.Memory.{Memory}
 use Rattle.test8.specs.Test8.{isSession}
-use Rattle.session.specs.Calls.{handOver, settleOf}
+use Rattle.session.specs.Calls.{handOver, handOverNumber, settleOf}
 use Rattle.session.specs.declared.HandOver.{HandOver}
 use Rattle.session.specs.declared.HandOver.the-variants as over
 use Rattle.session.specs.declared.Settled.{Settled}
 use Rattle.session.specs.declared.Settled.the-variants as settled
+use Rattle.theory.specs.Flow.{Key}
 use Rattle.theory.specs.Session as theory
 use Rattle.theory.specs.HandOver.{Switch, Call, hand, settling}
 use Rattle.meaning.specs.View.{switchOf}
@@ -58,6 +60,14 @@ callOn l settling v = let e = settleOf l (v .numbers) (v .room) in live (afterSe
 unfoldable pub callsOn : Layout → List Call → Live → Live
 callsOn l [] v = v
 callsOn l (a ∷ later) v = callsOn l later (callOn l a v)
+
+-- mission: "accepted": the keys of the hand-overs that were answered 0, in order
+unfoldable pub accepted : Layout → List Call → Live → List Key
+accepted l [] v = []
+accepted l (settling ∷ later) v = accepted l later (callOn l settling v)
+accepted l (hand x ∷ later) v =
+    let rest = accepted l later (callOn l (hand x) v) in
+    cond (eqb (handOverNumber (handOver l (v .numbers) x (v .room) .answer)) 0) (x ∷ rest) rest
 
 -- every key that is handed over has the layout's length
 unfoldable pub KeysFit : Layout → List Call → Type 0

@@ -41,7 +41,7 @@ module _ (a b : List Record) where
       list-join (length (a ++ b)) (λ i. f (at (a ++ b) i)) ∙ joins (λ r. f r ∷ [])
       ∙ ap₂ _++_ (sym (list-join (length a) (λ i. f (at a i)))) (sym (list-join (length b) (λ i. f (at b i))))
 
-  apart-joined : apart (a ++ b) ≡ areas.joinedList (apart a) (apart b)
+  pub apart-joined : apart (a ++ b) ≡ areas.joinedList (apart a) (apart b)
   unfolding apart keysUpto countsUpto flagsUpto areas.joinedList
   apart-joined =
       let keys = joins (λ r. keyBytes (r .key)) in

@@ -5,3 +5,4 @@ pub mod Demands
 pub mod Sides
 pub mod Joined
 pub mod Joint
+pub mod History

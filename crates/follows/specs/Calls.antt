@@ -1,8 +1,12 @@
 -- The calls of 01 over records one after the other, each on the numbers and the lent room that the call before it left.
+use mathlib.Core.Bool.{cond}
 use mathlib.Core.List.{List, [], _∷_}
+use lib.Dec.{eqb}
 use Rattle.packet.specs.declared.Key.{Key}
 use Rattle.packet.specs.Key.{keyBytes}
 use Rattle.room.specs.declared.Session.{Session}
+use Rattle.session.specs.Calls.{handOverNumber}
+use Rattle.theory.specs.Flow as flow
 use Rattle.theory.specs.HandOver as theory
 use Rattle.demands.specs.Calls.{Live, live, afterHand, afterSettle}
 use Rattle.calls.specs.Calls.{Lent, asNumbers, handRecords, settleRecords}
@@ -40,3 +44,11 @@ callOn settling v = let e = settleRecords (v .numbers) (v .room) in held (afterS
 unfoldable pub callsOn : List Call → Held → Held
 callsOn [] v = v
 callsOn (a ∷ later) v = callsOn later (callOn a v)
+
+-- mission: "accepted": the keys of the hand-overs that were answered 0, in order
+unfoldable pub accepted : List Call → Held → List flow.Key
+accepted [] v = []
+accepted (settling ∷ later) v = accepted later (callOn settling v)
+accepted (handing key ∷ later) v =
+    let rest = accepted later (callOn (handing key) v) in
+    cond (eqb (handOverNumber (handRecords (v .numbers) key (v .room) .answer)) 0) (keyBytes key ∷ rest) rest

@@ -1,3 +1,4 @@
 -- What the theorems over records cite.
 pub mod Calls
 pub mod Exchanges
+pub mod History

@@ -1,5 +1,5 @@
 -- The exchange call on two sessions that pass the test is the theory's exchange.
-use mathlib.Core.Path.{_≡_, refl, ap, ap₂, _∙_}
+use mathlib.Core.Path.{_≡_, refl, sym, ap, ap₂, subst, _∙_}
 use Prim.Native.Nat.{ℕ}
 use lib.ListN.{length}
 use borrow.Author.Tests.{eq-eqb}
@@ -20,7 +20,7 @@ use Rattle.theory.specs.Settle.{stopNumber}
 use Rattle.theory.specs.Exchange as theory
 use Rattle.link.specs.Held.{Lent}
 use Rattle.demands.specs.Calls.{Live, live, withListed, viewed, switchAt, Passing}
-use Rattle.joint.specs.Exchanges.{listedA, listedB, twelvesOf, exchangeOn, pairBefore, pairAfter}
+use Rattle.joint.specs.Exchanges.{listedA, listedB, twelvesOf, exchangeOn, exchangedA, exchangedB, pairBefore, pairAfter}
 use Rattle.demands.proofs.Steps.{tests-pass}
 use Rattle.joint.proofs.Pairs.{EndShows, endingAs, exchange-shows}
 
@@ -104,28 +104,51 @@ module _ (l : Layout) (u v : Live) (pu : Passing l u) (pv : Passing l v) (slots 
         twelves-are = refl;
       })
 
-  abbrev leftA : Memory
+  abbrev pub leftA : Memory
   leftA = roomLeft (u .room) (done .pair .a)
 
-  abbrev leftB : Memory
+  abbrev pub leftB : Memory
   leftB = roomLeft (v .room) (done .pair .b)
 
   left-rooms : Rooms l (u .numbers .sizes) leftA
   left-rooms = lent-rooms l (u .numbers .sizes) leftA (shown .pair-shows .shows-a .lent) (pu .filter-fits)
 
+  -- what stands at each switch then
+  pub live-a : exchangedA l u v ≡ live (withListed (u .numbers) (done .pair .a .listed)) leftA
+  live-a =
+      let p = done .pair in
+      rw exchange-passed (ap₂ (λ n m. live (withListed (u .numbers) n) m)
+      (answer-a (done .ending) (p .a .listed) (p .b .listed) (p .twelves) (u .numbers .listed))
+      (joined-a l (u .numbers .sizes) leftA leftB left-rooms))
+
+  pub live-b : exchangedB l u v ≡ live (withListed (v .numbers) (done .pair .b .listed)) leftB
+  live-b =
+      let p = done .pair in
+      rw exchange-passed (ap₂ (λ n m. live (withListed (v .numbers) n) m)
+      (answer-b (done .ending) (p .a .listed) (p .b .listed) (p .twelves) (v .numbers .listed))
+      (joined-b l (u .numbers .sizes) leftA leftB left-rooms))
+
   -- Theorem: what the call leaves is what the theory's exchange leaves
   pub exchange-pair : pairAfter l u v ≡ result .pair
   exchange-pair =
-      let o = done .ending in
       let p = done .pair in
-      rw exchange-passed (pair-path
-      (ap₂ (λ n m. viewed l (live (withListed (u .numbers) n) m)) (answer-a o (p .a .listed) (p .b .listed) (p .twelves) (u .numbers .listed))
-      (joined-a l (u .numbers .sizes) leftA leftB left-rooms)
-      ∙ shown .pair-shows .shows-a .seen-as)
-      (ap₂ (λ n m. viewed l (live (withListed (v .numbers) n) m)) (answer-b o (p .a .listed) (p .b .listed) (p .twelves) (v .numbers .listed))
-      (joined-b l (u .numbers .sizes) leftA leftB left-rooms)
-      ∙ shown .pair-shows .shows-b .seen-as)
-      (answer-twelves o (p .a .listed) (p .b .listed) (p .twelves) ∙ shown .pair-shows .twelves-are))
+      pair-path (ap (viewed l) live-a ∙ shown .pair-shows .shows-a .seen-as) (ap (viewed l) live-b ∙ shown .pair-shows .shows-b .seen-as)
+      (rw exchange-passed (answer-twelves (done .ending) (p .a .listed) (p .b .listed) (p .twelves)) ∙ shown .pair-shows .twelves-are)
+
+  -- Theorem: both sessions pass the test again, and their switches are as they were
+  pub passing-a : Passing l (exchangedA l u v)
+  passing-a = subst (Passing l) (sym live-a)
+      (record { lent = shown .pair-shows .shows-a .lent; filter-fits = pu .filter-fits; passes = shown .pair-shows .shows-a .passes })
+
+  pub passing-b : Passing l (exchangedB l u v)
+  passing-b = subst (Passing l) (sym live-b)
+      (record { lent = shown .pair-shows .shows-b .lent; filter-fits = pv .filter-fits; passes = shown .pair-shows .shows-b .passes })
+
+  pub switch-a : switchAt l (exchangedA l u v) ≡ switchAt l u
+  switch-a = ap (switchAt l) live-a
+
+  pub switch-b : switchAt l (exchangedB l u v) ≡ switchAt l v
+  switch-b = ap (switchAt l) live-b
 
   number-is : (o : Ending) (a b t : ℕ) → exchangeNumber (answerOf o a b t) ≡ endNumber (endingAs l A (u .room .filter) B (v .room .filter) o)
   number-is end.Settled a b t = refl

@@ -47,13 +47,22 @@ exchangeOn l u v = exchangeOf l (u .numbers) (v .numbers) (joined (u .room) (v .
 abbrev pub pairBefore : Layout → Live → Live → Pair
 pairBefore l u v = record { a = viewed l u; b = viewed l v; twelves = 0 }
 
--- s and t after an exchange that left x
+-- what stands of s and of t after an exchange of the two that left x
+abbrev pub afterA : Layout → Session → Exchanging → Live
+afterA l s x = live (withListed s (listedA (x .answer) (s .listed))) (roomA (seam l (s .sizes)) (x .room))
+
+abbrev pub afterB : Layout → Session → Session → Exchanging → Live
+afterB l s t x = live (withListed t (listedB (x .answer) (t .listed))) (roomB (seam l (s .sizes)) (x .room))
+
 abbrev pub pairLeft : Layout → Session → Session → Exchanging → Pair
-pairLeft l s t x = record {
-  a = viewed l (live (withListed s (listedA (x .answer) (s .listed))) (roomA (seam l (s .sizes)) (x .room)));
-  b = viewed l (live (withListed t (listedB (x .answer) (t .listed))) (roomB (seam l (s .sizes)) (x .room)));
-  twelves = twelvesOf (x .answer);
-}
+pairLeft l s t x = record { a = viewed l (afterA l s x); b = viewed l (afterB l s t x); twelves = twelvesOf (x .answer) }
+
+-- after the call
+abbrev pub exchangedA : Layout → Live → Live → Live
+exchangedA l u v = afterA l (u .numbers) (exchangeOn l u v)
+
+abbrev pub exchangedB : Layout → Live → Live → Live
+exchangedB l u v = afterB l (u .numbers) (v .numbers) (exchangeOn l u v)
 
 abbrev pub pairAfter : Layout → Live → Live → Pair
 pairAfter l u v = pairLeft l (u .numbers) (v .numbers) (exchangeOn l u v)

@@ -1,2 +1,3 @@
 -- What the theorems of this crate say.
 pub mod Exchanges
+pub mod History

@@ -78,7 +78,7 @@ module _ (l : Layout) (z : Sizes) (salt n : ℕ) (t : Tab) where
         )
 
     -- one count step is the theory's by looking through all cells
-    step-is : let p = countOf l z salt n (t .flows) b rs in
+    pub step-is : let p = countOf l z salt n (t .flows) b rs in
         countStep (p .answer) (notedAt (p .cells) (p .list)) ≡ mapStep (noted has) (theory.countStep (tableCells l z) has (sessionAt b rs))
     step-is = count-is l z salt n t b rs (s .held) (s .is-ready) named ∙ ap (countNoted (tableCells l z) has) noted-is
         ∙ count-noted (tableCells l z) has (sessionAt b rs) (s .apart)

@@ -18,3 +18,4 @@ pub mod Settle
 pub mod Hand
 pub mod Test8
 pub mod Sessions
+pub mod Again

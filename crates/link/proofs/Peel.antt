@@ -20,13 +20,15 @@ use Rattle.list.proofs.Laws.{length-key}
 use Rattle.marks.specs.Marks.{marked, firstMark}
 use Rattle.table.specs.Table.{Tab, Fit, hasEmpty, takenOut}
 use Rattle.peeling.specs.Peel.{Peeled, peeled, Ended, peelDamaged, peelTaken, peelAt, peelOf, afterPeel, peelsUpto, listedAt}
-use Rattle.peeling.specs.declared.Step.the-variants.{Quiet, Full, Damaged}
+use Rattle.peeling.specs.declared.Step.the-variants.{Quiet, Full, Damaged, Next}
 use Rattle.theory.specs.Flow.{Key}
 use Rattle.theory.specs.Encode.{Placement}
 use Rattle.theory.specs.Session.{hasEmptyCell}
 use Rattle.theory.specs.Settle as theory
 use Rattle.theory.specs.Settle.{Step, repeat, afterStep}
 use Rattle.theory.specs.Notes.{Noted, peelNoted}
+use Rattle.theory.specs.Collector.{PeelLeaves}
+use Rattle.theory.proofs.Hollow.{peel-meets}
 use Rattle.link.specs.View.{below, cellsOf, recordAt, recordsOf, marksOf, notedOf, spotAt}
 use Rattle.link.specs.Held.{Lent, Held, Clear}
 use Rattle.link.specs.Answers.{peelStep, endedAs}
@@ -37,7 +39,7 @@ use Rattle.link.proofs.Ends.{noted-quiet, noted-full, noted-broken, not
 use Rattle.laws.proofs.Rows.{row-within}
 
 -- ---- the ways a peel on lists ends
-data Peeling (l : Layout) (z : Sizes) (salt n : ℕ) (t : Tab) (rs : Records) (seen : List ℕ) : Peeled → Type 0 where
+pub data Peeling (l : Layout) (z : Sizes) (salt n : ℕ) (t : Tab) (rs : Records) (seen : List ℕ) : Peeled → Type 0 where
   none-marked : ltb (firstMark (t .marks)) (tableCells l z) ≡ false → Peeling l z salt n t rs seen (peeled Quiet t rs seen)
   no-room : ltb (firstMark (t .marks)) (tableCells l z) ≡ true → leb (2 * tableCells l z) n ≡ true
       → Peeling l z salt n t rs seen (peeled (Full (firstMark (t .marks))) t rs seen)
@@ -48,7 +50,7 @@ data Peeling (l : Layout) (z : Sizes) (salt n : ℕ) (t : Tab) (rs : Records) (s
       → peelDamaged l z salt n (t .flows) (rs .keys) (keyAt l (t .xors) (firstMark (t .marks))) ≡ false
       → Peeling l z salt n t rs seen (peelTaken l z salt n (keyAt l (t .xors) (firstMark (t .marks))) t rs seen)
 
-peeling : (l : Layout) (z : Sizes) (salt n : ℕ) (t : Tab) (rs : Records) (seen : List ℕ)
+pub peeling : (l : Layout) (z : Sizes) (salt n : ℕ) (t : Tab) (rs : Records) (seen : List ℕ)
     → Peeling l z salt n t rs seen (peelOf l z salt n t rs seen)
 unfolding peelOf peelAt
 peeling l z salt n t rs seen = elim (split (ltb (firstMark (t .marks)) (tableCells l z))) [
@@ -169,6 +171,14 @@ module _ (l : Layout) (z : Sizes) (salt n : ℕ) (t : Tab) (packets : List ℕ) 
       go (no-room a b) = refl
       go (broken a b d) = refl
       go (taken-out a b d) = leaves-taken a seen c away
+
+  -- Theorem: it meets the peel's contract, which the hollow program that rescans breaks
+  pub peel-contract : (seen : List ℕ) → let p = peelOf l z salt n t rs seen in
+      p .answer ≡ Next → PeelLeaves size has before (notedOf l z (n + 1) (p .table) packets (p .list))
+  peel-contract seen e =
+      let p = peelOf l z salt n t rs seen in
+      let after = notedOf l z (n + 1) (p .table) packets (p .list) in
+      peel-meets size has before after (sym (peel-is seen) ∙ ap (λ a. peelStep a after) e)
 
 -- ---- peeling while a cell is marked
 module _ (l : Layout) (z : Sizes) (salt : ℕ) (packets : List ℕ) where

@@ -49,7 +49,7 @@ use Rattle.link.proofs.Counts.{counts-is, counts-held}
 use Rattle.link.proofs.Fuel.{fuel-same}
 
 -- ---- no cell has more unknown flows than are listed
-unknowns-le : (l : Layout) (n : ℕ) (rs : Records) → length (unknownsOf (recordsOf l n rs)) ≤ n
+pub unknowns-le : (l : Layout) (n : ℕ) (rs : Records) → length (unknownsOf (recordsOf l n rs)) ≤ n
 unknowns-le l n rs = rw (where-number (λ r. not (r .known)) (recordAt l rs) n) (number-max n (λ i. not (recordAt l rs i .known)))
 
 module _ (l : Layout) (z : Sizes) (salt n : ℕ) (t : Tab) (packets : List ℕ) (rs : Records) (lent : Lent l z t packets rs)
@@ -86,10 +86,10 @@ module _ (l : Layout) (z : Sizes) (salt : ℕ) (packets : List ℕ) (t : Tab) (r
   abbrev has : Placement
   has = hasCell l z salt
 
-  abbrev started : Book
+  abbrev pub started : Book
   started = book packets (t .unknowns) (t .positions) (readyUpto (t .flows) (t .unknowns) (tableCells l z))
 
-  starts : (n : ℕ) → Held l z n t packets rs → Ready (tableCells l z) (t .flows) started
+  pub starts : (n : ℕ) → Held l z n t packets rs → Ready (tableCells l z) (t .flows) started
   starts n h = ready-starts (t .flows) (t .unknowns) (tableCells l z) packets (t .positions)
       (table-high l z (h .lent .table .lays) (h .lent .table .ranged))
 

@@ -12,25 +12,23 @@ use lib.ListN.{length}
 use lib.Dec.{eqb, leb}
 use Rattle.laws.proofs.Bools.{split, clash}
 use Rattle.theory.specs.Flow.{Key, among}
-use Rattle.theory.specs.Session.{Session, keysOf, handedOf, listed, handedOver, counted}
+use Rattle.theory.specs.Session.{Session, keysOf, handedOf, listed, handedOver}
 use Rattle.theory.specs.Settle.{Stop}
 use Rattle.theory.specs.HandOver.{Switch, handAnswer, handOver, call, calls, handEach, settleAt}
-use Rattle.theory.specs.Fits.{Fits}
-use Rattle.theory.specs.Runs.{start, AtRest}
 use Rattle.theory.specs.Invariant.{Counted, Holds}
+use Rattle.theory.specs.Demands.{HandedCounted}
 use Rattle.theory.specs.Exchange.{handAll, twelvesIn}
 use Rattle.theory.specs.Family.{Family, FamilyEnding, ended, stoppedAt, Ended, Way, leads, Within, putAt, handTo, handAlong, andThen}
-use Rattle.theory.specs.Family.{settleOne, settleUpto}
+use Rattle.theory.specs.Family.{settleOne, settleUpto, exchangeAlong}
 use Rattle.theory.proofs.Flow.{among-here, among-there}
 use Rattle.theory.proofs.Records.{where-listed}
-use Rattle.theory.proofs.Confluence.{same-counted}
 use Rattle.theory.proofs.Settle.{none-empty}
 use Rattle.theory.proofs.HandOver.{accepts}
-use Rattle.theory.proofs.Calls.{Goes, goes-holds, settle-goes, hand-goes}
+use Rattle.theory.proofs.Calls.{Goes, goes-holds, settle-goes, hand-goes, calls-go}
 use Rattle.theory.proofs.Grown.{grown-length, Passed, passed}
-use Rattle.theory.proofs.Generic.{put-here, put-other, put-same}
-use Rattle.theory.proofs.Onward.{leads-cases, upto-keeps}
-use Rattle.theory.proofs.Onward.{onward-hand, onward-along}
+use Rattle.theory.proofs.Generic.{put-here, put-other, put-all, put-same}
+use Rattle.theory.proofs.Onward.{leads-cases, upto-keeps, exchange-keeps}
+use Rattle.theory.proofs.Onward.{Onward, onward-refl, onward-trans, onward-hand, onward-settle, onward-along}
 use Rattle.theory.proofs.Room.{then-ended}
 
 -- ---- one switch
@@ -51,13 +49,6 @@ module _ (w : Switch) (e : Counted w) (s₀ : Session) (i₀ : Holds w e s₀) w
           | inr r ↦ clash refl (rw (p, l, z, r) at (q .0))
         ]
   ]
-
-  -- the counts at rest are those of a settling right at the start
-  pub counts-alone : Fits (w .size) s₀ → (s : Session) → Goes w e s₀ i₀ s → AtRest (w .size) (w .has) s
-      → (k : Key) → counted s k ≡ counted (settleAt w s₀ .state) k
-  counts-alone fit s g rest =
-      let alone = settle-goes w e s₀ i₀ s₀ (record { run = start; fits = fit }) in
-      same-counted w e s₀ i₀ (g .run) (alone .0 .run) rest (alone .2)
 
   -- a list whose keys that pass were counted here
   pub list-goes : (l : List Key) (s : Session) → Goes w e s₀ i₀ s
@@ -112,6 +103,10 @@ module _ (W : ℕ → Switch) where
     unfolding handTo
     hand-session = put-here (v .to) _ (p .session)
 
+    pub hand-away : (i : ℕ) → (i ≡ v .to → ⊥) → handTo W v p .session i ≡ p .session i
+    unfolding handTo
+    hand-away i d = put-other (v .to) _ (p .session) i d
+
     hand-twelves : handTo W v p .twelves ≡ p .twelves → twelvesIn (W (v .to)) given (p .session (v .to)) ≡ 0
     unfolding handTo
     hand-twelves e = omega arith
@@ -147,3 +142,34 @@ module _ (W : ℕ → Switch) where
           | inr h ↦ later .1 a c h
         ],
       )
+
+-- ---- one switch of a family in an exchange, whatever the others are
+module _ (W : ℕ → Switch) (i : ℕ) (e : Counted (W i)) (s₀ : Session) (i₀ : Holds (W i) e s₀) where
+  abbrev pub GoesIn : Family → Type 0
+  GoesIn p = Goes (W i) e s₀ i₀ (p .session i)
+
+  pub one-settles : (j : ℕ) (p : Family) → GoesIn p → GoesIn (settleOne W j p .family)
+  unfolding settleOne
+  one-settles j p g = put-all j _ (p .session) (λ a t. a ≡ i → Goes (W i) e s₀ i₀ t)
+      (λ q. subst (λ a. Goes (W i) e s₀ i₀ (settleAt (W a) (p .session a) .state)) (sym q) (settle-goes (W i) e s₀ i₀ (p .session i) g .0))
+      (λ a q. subst (λ b. Goes (W i) e s₀ i₀ (p .session b)) (sym q) g) i refl
+
+  pub one-handed : (v : Way) (p : Family) → GoesIn p → HandedCounted (e .flows) (handTo W v p .session i) → GoesIn (handTo W v p)
+  one-handed v p g ours = elim (ℕ-discrete i (v .to)) [
+    | no d ↦ subst (Goes (W i) e s₀ i₀) (sym (hand-away W v p i d)) g
+    | yes q ↦
+        let here : handTo W v p .session i ≡ handAll (W i) (given W v p) (p .session i)
+        = subst (λ a. handTo W v p .session a ≡ handAll (W a) (given W v p) (p .session a)) (sym q) (hand-session W v p) in
+        subst (Goes (W i) e s₀ i₀) (sym here)
+        (calls-go (W i) e s₀ i₀ (handEach (given W v p)) (p .session i) g (subst (HandedCounted (e .flows)) here ours))
+  ]
+
+  -- Theorem: where every flow that this switch accepted was counted here, its session stays one of its flowset
+  pub one-goes : (n : ℕ) (l : List Way) (p : Family) → GoesIn p → HandedCounted (e .flows) (exchangeAlong n W l p .family .session i)
+      → GoesIn (exchangeAlong n W l p .family)
+  one-goes n l p g ours =
+      let final = exchangeAlong n W l p .family in
+      exchange-keeps n W (λ q. Onward q final → GoesIn q)
+      (λ j q _ h o. one-settles j q (h (onward-trans q (settleOne W j q .family) final (onward-settle W j q) o))) l
+      (λ v q _ h o. one-handed v q (h (onward-trans q (handTo W v q) final (onward-hand W v q) o)) (λ k x. ours k (o .handed i k x)))
+      p (λ _. g) (onward-refl final)

@@ -1,4 +1,5 @@
--- The exchange of two switches is that of a family along one pair: so it ends, with both lists at their joint closure, and adds no count.
+-- The exchange of two switches is that of a family along one pair: so it ends at rest, with both lists at their joint closure, and leaves sessions
+-- of the same flowsets.
 use mathlib.Core.Path.{_≡_, refl, sym, ap, _∙_, subst}
 use mathlib.Core.Logic.{inl, inr}
 use mathlib.Core.Bool.{Bool, true, false, cond}
@@ -8,21 +9,23 @@ use native.Mathlib.Omega.{arith}
 use Rattle.laws.specs.Upto.{anyUpto}
 use Rattle.laws.proofs.Bools.{split}
 use Rattle.theory.specs.Flow.{Key, among}
-use Rattle.theory.specs.Session.{listed, counted}
+use Rattle.theory.specs.Session.{listed, handedOver}
 use Rattle.theory.specs.Settle.{Stop, settled, listFull, damage}
 use Rattle.theory.specs.HandOver.{Switch, settleAt}
 use Rattle.theory.specs.Fits.{Fits}
-use Rattle.theory.specs.Runs.{PeelClosed}
-use Rattle.theory.specs.Invariant.{Counted, Holds}
+use Rattle.theory.specs.Runs.{PeelClosed, Stands, AtRest}
+use Rattle.theory.specs.Invariant.{Counted, received, Holds}
 use Rattle.theory.specs.Demands.{HandedCounted}
 use Rattle.theory.specs.Exchange.{Pair, Ending, finished, stoppedA, stoppedB, Exchanged, handBoth, settleBoth, round, grew, goOn, rounds}
-use Rattle.theory.specs.Exchange.{thenRounds, exchange, PassesOwn, Undenied, JointlyClosed, JointClosure}
+use Rattle.theory.specs.Exchange.{thenRounds, exchange, PassesOwn, BothCounted, JointlyClosed, JointClosure}
 use Rattle.theory.specs.Family.{Family, FamilyEnding, ended, stoppedAt, Ended, Way, bothWays, leads, Within, putAt, handTo, handAlong}
 use Rattle.theory.specs.Family.{andThen, settleOne, settleUpto, roundAlong, anyGrew, roundsAlong, sumUpto, roundsRoom, exchangeAlong}
-use Rattle.theory.specs.Family.{UndeniedAlong, ClosedAlong, ClosureAlong}
-use Rattle.theory.proofs.Onward.{within-both}
+use Rattle.theory.specs.Family.{AllCounted, ClosedAlong, ClosureAlong}
+use Rattle.theory.proofs.Onward.{within-both, onward-exchange}
 use Rattle.theory.proofs.Room.{NotFull, NeverFull, AllFit, family-over, family-enough, family-never-13}
-use Rattle.theory.proofs.Family.{family-ends, family-closure, family-counts}
+use Rattle.theory.proofs.Invariant.{invariant-opened}
+use Rattle.theory.proofs.Along.{one-goes}
+use Rattle.theory.proofs.Family.{family-ends, family-rests, family-closure}
 
 -- ---- two switches as a family
 abbrev pub two : {T : Type 0} → T → T → ℕ → T
@@ -207,16 +210,13 @@ module _ (A B : Switch) (e : Counted A) (f : Counted B) (p₀ : Pair) where
     least-b = λ X Y j. c .least (two X Y) (joint X Y j) 1 (omega arith);
   }
 
-  two-undenied : (q : Family) → Undenied A B e f (pairOf q) → UndeniedAlong 2 (two A B) counts q
-  two-undenied q o = record { ours = ours; no-twelve = o .no-twelve }
-    where
-      ours : (i : ℕ) → i < 2 → HandedCounted (counts i .flows) (q .session i)
-      ours zero _ = o .ours-a
-      ours (suc zero) _ = o .ours-b
-      ours (suc (suc i)) b = absurd (omega arith)
+  two-counted : (q : Family) → BothCounted A B e f (pairOf q) → AllCounted 2 (two A B) counts q
+  two-counted q o zero _ = o .ours-a
+  two-counted q o (suc zero) _ = o .ours-b
+  two-counted q o (suc (suc i)) b = absurd (omega arith)
 
-  module _ (hA : Holds A e (p₀ .a)) (hB : Holds B f (p₀ .b)) (ownA : PassesOwn A e) (ownB : PassesOwn B f)
-      (fitA : Fits (A .size) (p₀ .a)) (fitB : Fits (B .size) (p₀ .b)) (ours : Undenied A B e f (exchange A B p₀ .pair)) where
+  module _ (hA : Holds A e (p₀ .a)) (hB : Holds B f (p₀ .b)) (fitA : Fits (A .size) (p₀ .a)) (fitB : Fits (B .size) (p₀ .b))
+      (ours : BothCounted A B e f (exchange A B p₀ .pair)) where
     abbrev final : Ended
     final = exchangeAlong 2 (two A B) onePair (familyOf p₀)
 
@@ -227,29 +227,52 @@ module _ (A B : Switch) (e : Counted A) (f : Counted B) (p₀ : Pair) where
     holds zero _ = hA
     holds (suc i) _ = hB
 
-    own : (i : ℕ) → i < 2 → PassesOwn (two A B i) (counts i)
-    own zero _ = ownA
-    own (suc i) _ = ownB
-
-    undenied : UndeniedAlong 2 (two A B) counts (final .family)
-    undenied = two-undenied (final .family) (subst (λ r. Undenied A B e f (r .pair)) (sym (two-are A B p₀)) ours)
+    all-counted : AllCounted 2 (two A B) counts (final .family)
+    all-counted = two-counted (final .family) (subst (λ r. BothCounted A B e f (r .pair)) (sym (two-are A B p₀)) ours)
 
     -- Theorem: no 13 or 14 ends the exchange
     pub exchange-ends : exchange A B p₀ .ending ≡ finished
     exchange-ends = sym (ap (λ r. r .ending) (two-are A B p₀))
-        ∙ ap endOf (family-ends 2 (two A B) onePair within counts (familyOf p₀) holds (two-fit A B p₀ fitA fitB) own undenied)
+        ∙ ap endOf (family-ends 2 (two A B) onePair within counts (familyOf p₀) holds (two-fit A B p₀ fitA fitB) all-counted)
 
-    -- Theorem: each list is the joint closure
-    pub exchange-closure : JointClosure A B e f p₀ (exchange A B p₀ .pair)
-    exchange-closure = subst (λ r. JointClosure A B e f p₀ (r .pair)) (two-are A B p₀) (two-closure (final .family)
-        (family-closure 2 (two A B) onePair within counts (familyOf p₀) holds (two-fit A B p₀ fitA fitB) own undenied))
+    rests-at : (i : ℕ) → i < 2 → AtRest (two A B i .size) (two A B i .has) (final .family .session i)
+    rests-at = family-rests 2 (two A B) onePair within counts (familyOf p₀) holds (two-fit A B p₀ fitA fitB) all-counted
 
-    counts-at : (i : ℕ) → i < 2 → (k : Key) → counted (final .family .session i) k ≡ counted (settleAt (two A B i) (familyOf p₀ .session i) .state) k
-    counts-at = family-counts 2 (two A B) onePair within counts (familyOf p₀) holds (two-fit A B p₀ fitA fitB) own undenied
+    -- Theorem: both sessions are left at rest
+    pub exchange-rests : AtRest (A .size) (A .has) (exchange A B p₀ .pair .a) × AtRest (B .size) (B .has) (exchange A B p₀ .pair .b)
+    exchange-rests = (
+      subst (λ (r : Exchanged). AtRest (A .size) (A .has) (r .pair .a)) (two-are A B p₀) (rests-at 0 (omega arith)),
+      subst (λ (r : Exchanged). AtRest (B .size) (B .has) (r .pair .b)) (two-are A B p₀) (rests-at 1 (omega arith)),
+    )
 
-    -- Theorem: the counts are those that each flowset yields by itself
-    pub exchange-counts-a : (k : Key) → counted (exchange A B p₀ .pair .a) k ≡ counted (settleAt A (p₀ .a) .state) k
-    exchange-counts-a k = ap (λ r. counted (r .pair .a) k) (sym (two-are A B p₀)) ∙ counts-at 0 (omega arith) k
+    -- Theorem: with no answer 12 each list is the joint closure
+    pub exchange-closure : PassesOwn A e → PassesOwn B f → exchange A B p₀ .pair .twelves ≡ 0 → JointClosure A B e f p₀ (exchange A B p₀ .pair)
+    exchange-closure ownA ownB none-12 = subst (λ r. JointClosure A B e f p₀ (r .pair)) (two-are A B p₀) (two-closure (final .family)
+        (family-closure 2 (two A B) onePair within counts (familyOf p₀) holds (two-fit A B p₀ fitA fitB) all-counted own
+        (ap (λ (r : Exchanged). r .pair .twelves) (two-are A B p₀) ∙ none-12)))
+      where
+        own : (i : ℕ) → i < 2 → PassesOwn (two A B i) (counts i)
+        own zero _ = ownA
+        own (suc i) _ = ownB
 
-    pub exchange-counts-b : (k : Key) → counted (exchange A B p₀ .pair .b) k ≡ counted (settleAt B (p₀ .b) .state) k
-    exchange-counts-b k = ap (λ r. counted (r .pair .b) k) (sym (two-are A B p₀)) ∙ counts-at 1 (omega arith) k
+-- ---- one switch, whatever the other is
+module _ (A B : Switch) (p : Pair) where
+  -- what was handed over stays handed over
+  pub exchange-keeps-a : (k : Key) → handedOver (p .a) k ≡ true → handedOver (exchange A B p .pair .a) k ≡ true
+  exchange-keeps-a k h = subst (λ (r : Exchanged). handedOver (r .pair .a) k ≡ true) (two-are A B p)
+      (onward-exchange (two A B) 2 onePair (familyOf p) .handed 0 k h)
+
+  pub exchange-keeps-b : (k : Key) → handedOver (p .b) k ≡ true → handedOver (exchange A B p .pair .b) k ≡ true
+  exchange-keeps-b k h = subst (λ (r : Exchanged). handedOver (r .pair .b) k ≡ true) (two-are A B p)
+      (onward-exchange (two A B) 2 onePair (familyOf p) .handed 1 k h)
+
+  -- Theorem: where every flow that A accepted was counted there, its session stays one of its flowset; and so B's
+  pub exchange-stands-a : (e : Counted A) → Stands A e (p .a) → HandedCounted (e .flows) (exchange A B p .pair .a) → Stands A e (exchange A B p .pair .a)
+  exchange-stands-a e g ours = subst (λ (r : Exchanged). Stands A e (r .pair .a)) (two-are A B p)
+      (one-goes (two A B) 0 e (received A e) (invariant-opened A e) 2 onePair (familyOf p) g
+      (subst (λ (r : Exchanged). HandedCounted (e .flows) (r .pair .a)) (sym (two-are A B p)) ours))
+
+  pub exchange-stands-b : (f : Counted B) → Stands B f (p .b) → HandedCounted (f .flows) (exchange A B p .pair .b) → Stands B f (exchange A B p .pair .b)
+  exchange-stands-b f g ours = subst (λ (r : Exchanged). Stands B f (r .pair .b)) (two-are A B p)
+      (one-goes (two A B) 1 f (received B f) (invariant-opened B f) 2 onePair (familyOf p) g
+      (subst (λ (r : Exchanged). HandedCounted (f .flows) (r .pair .b)) (sym (two-are A B p)) ours))

@@ -1,4 +1,4 @@
--- The exchange of clean switches along any ways ends with the lists at their joint closure, whatever the order, and adds no count.
+-- The exchange of clean switches along any ways ends at rest, and with the lists at their joint closure, whatever the order.
 use mathlib.Core.Path.{_≡_, sym, ap, _∙_, subst}
 use mathlib.Core.Logic.{inl, inr}
 use mathlib.Core.Bool.{Bool, true, false}
@@ -10,7 +10,7 @@ use lib.Dec.{ltb}
 use Rattle.laws.proofs.Bools.{iff}
 use Rattle.laws.proofs.Upto.{any-none}
 use Rattle.theory.specs.Flow.{Key, among}
-use Rattle.theory.specs.Session.{Session, keysOf, listed, handedOver, counted}
+use Rattle.theory.specs.Session.{Session, keysOf, listed, handedOver}
 use Rattle.theory.specs.HandOver.{Switch, handEach, settleAt}
 use Rattle.theory.specs.Runs.{start, AtRest}
 use Rattle.theory.specs.Invariant.{Counted, Holds}
@@ -18,7 +18,7 @@ use Rattle.theory.specs.Demands.{HandedCounted}
 use Rattle.theory.specs.Exchange.{handAll, PassesOwn}
 use Rattle.theory.specs.Family.{Family, ended, Ended, Way, bothWays, leads, SameWays, Within, handTo, handAlong}
 use Rattle.theory.specs.Family.{settleOne, roundAlong, anyGrew, exchangeAlong}
-use Rattle.theory.specs.Family.{UndeniedAlong, FiltersApart, ClosedAlong, ClosureAlong}
+use Rattle.theory.specs.Family.{AllCounted, FiltersApart, ClosedAlong, ClosureAlong}
 use Rattle.theory.proofs.Runs.{listed-stays, listed-least}
 use Rattle.theory.proofs.Confluence.{rest-closed}
 use Rattle.theory.proofs.Settle.{settle-handed}
@@ -28,7 +28,7 @@ use Rattle.theory.proofs.Generic.{put-all}
 use Rattle.theory.proofs.Onward.{handed-from, within-at, within-both, both-same, along-keeps, exchange-keeps, Onward, onward-refl}
 use Rattle.theory.proofs.Onward.{onward-trans, onward-hand, onward-settle, onward-upto, onward-along}
 use Rattle.theory.proofs.Room.{AllFit, hand-fit, settle-fit, over-keeping}
-use Rattle.theory.proofs.Along.{handed-in, flow-listed, counts-alone, list-goes, never-both, upto-below, given, hand-session, still-along}
+use Rattle.theory.proofs.Along.{handed-in, flow-listed, list-goes, never-both, upto-below, given, hand-session, still-along, one-settles}
 use borrow.Author.Tests.{ltb-false}
 
 -- the switches below n; those from n on take no part
@@ -47,9 +47,7 @@ module _ (n : ℕ) (W : ℕ → Switch) (l : List Way) (within : Within n l) (e 
   go-start i b = record { run = start; fits = fit₀ i b }
 
   go-settle : (i : ℕ) (p : Family) → i < n → AllGo p → AllGo (settleOne W i p .family)
-  unfolding settleOne
-  go-settle i p _ g = put-all i _ (p .session) GoesAt
-      (λ b. settle-goes (W i) (e i) (p₀ .session i) (holds₀ i b) (p .session i) (g i b) .0) g
+  go-settle i p _ g j b = one-settles W j (e j) (p₀ .session j) (holds₀ j b) i p (g j b)
 
   go-hand : (v : Way) (p : Family) → AllGo p → GoesAt (v .to) (handAll (W (v .to)) (given W v p) (p .session (v .to))) → AllGo (handTo W v p)
   unfolding handTo
@@ -69,15 +67,12 @@ module _ (n : ℕ) (W : ℕ → Switch) (l : List Way) (within : Within n l) (e 
       (λ k m. apart i j b c k (go-inside p g i b k m)))
 
   -- Theorem: then every flow handed over was counted there
-  pub apart-undenied : FiltersApart n W e → final .family .twelves ≡ 0 → UndeniedAlong n W e (final .family)
-  apart-undenied apart z = record {
-    ours = λ i b. handed-in (λ k. among k (e i .flows)) (final .family .session i)
-        (go-inside (final .family) (exchange-keeps n W AllGo go-settle l (go-apart apart) p₀ go-start) i b);
-    no-twelve = z;
-  }
+  pub apart-counted : FiltersApart n W e → AllCounted n W e (final .family)
+  apart-counted apart i b = handed-in (λ k. among k (e i .flows)) (final .family .session i)
+      (go-inside (final .family) (exchange-keeps n W AllGo go-settle l (go-apart apart) p₀ go-start) i b)
 
   -- ---- where every flow handed over was counted there
-  module _ (own : (i : ℕ) → i < n → PassesOwn (W i) (e i)) (undenied : UndeniedAlong n W e (final .family)) where
+  module _ (ours : AllCounted n W e (final .family)) where
     record Good (p : Family) : Type 0 where
       pub goes : AllGo p
       pub least : (X : ℕ → Key → Bool) → ClosedAlong n W e l p₀ X → (i : ℕ) → i < n → (k : Key) → listed (p .session i) k ≡ true → X i k ≡ true
@@ -136,14 +131,16 @@ module _ (n : ℕ) (W : ℕ → Switch) (l : List Way) (within : Within n l) (e 
     before-hand v p y h = record {
       fits = hand-fit n W v p (h .fits);
       good = λ o. good-hand v p y (h .good (onward-trans p (handTo W v p) (final .family) (onward-hand W v p) o))
-          (λ k x. undenied .ours (v .to) (within-at n l within (v .from) (v .to) y .1) k
+          (λ k x. ours (v .to) (within-at n l within (v .from) (v .to) y .1) k
           (o .handed (v .to) k (subst (λ s. handedOver s k ≡ true) (sym (hand-session W v p)) x)));
     }
 
     record Finished (r : Ended) : Type 0 where
       pub ends : r .ending ≡ ended
       pub rest : (i : ℕ) → i < n → AtRest (W i .size) (W i .has) (r .family .session i)
-      pub along : (i j : ℕ) → leads l i j ≡ true → (k : Key) → among k (e j .flows) ≡ true → listed (r .family .session i) k ≡ true
+      -- where no hand-over was answered with 12
+      pub along : ((i : ℕ) → i < n → PassesOwn (W i) (e i)) → r .family .twelves ≡ 0
+          → (i j : ℕ) → leads l i j ≡ true → (k : Key) → among k (e j .flows) ≡ true → listed (r .family .session i) k ≡ true
           → listed (r .family .session j) k ≡ true
 
     good-final : Good (final .family)
@@ -164,17 +161,16 @@ module _ (n : ℕ) (W : ℕ → Switch) (l : List Way) (within : Within n l) (e 
         = λ i b. ltb-false (len p i) (len f i) (any-none n (λ j. ltb (len p j) (len f j)) none i b) in
         let more : (i : ℕ) → len p i ≤ len q i = λ i. omega (arith, grown-length (p .session i) (q .session i) (o .grown i)) in
         let more′ : (i : ℕ) → len q i ≤ len f i = λ i. omega (arith, grown-length (q .session i) (f .session i) (o′ .grown i)) in
-        let still = still-along W n l p within (λ i b. omega (arith, le i b, more i, more′ i))
-        (omega (arith, o′ .twelves-le, undenied .no-twelve)) in
-        let keys : (i : ℕ) → i < n → keysOf (f .session i .list) ≡ keysOf (p .session i .list)
-        = λ i b. grown-same (q .session i) (f .session i) (o′ .grown i) (omega (arith, le i b, more i, more′ i))
-        ∙ ap (λ r. keysOf (r .session i .list)) (still .0) in
         record {
           ends = ends;
           rest = λ i b. subst (AtRest (W i .size) (W i .has))
               (sym (ap (λ r. r .family .session i) is ∙ upto-below W n q (sym (ap (λ r. r .ending) is) ∙ ends) i b))
               (settle-goes (W i) (e i) (p₀ .session i) (holds₀ i b) (q .session i) (gq .goes i b) .2);
-          along = λ i j y k m x.
+          along = λ own none-12 i j y k m x.
+              let still = still-along W n l p within (λ a b. omega (arith, le a b, more a, more′ a)) (omega (arith, o′ .twelves-le, none-12)) in
+              let keys : (a : ℕ) → a < n → keysOf (f .session a .list) ≡ keysOf (p .session a .list)
+              = λ a b. grown-same (q .session a) (f .session a) (o′ .grown a) (omega (arith, le a b, more a, more′ a))
+              ∙ ap (λ r. keysOf (r .session a .list)) (still .0) in
               let b = within-at n l within i j y in
               ap (among k) (keys j (b .1)) ∙ flow-listed (W j) (e j) (p₀ .session j) (holds₀ j (b .1)) (p .session j) (gp .goes j (b .1)) k m
               (own j (b .1) k m) (still .1 i j y .answers k (ap (among k) (sym (keys i (b .0))) ∙ x));
@@ -196,23 +192,23 @@ module _ (n : ℕ) (W : ℕ → Switch) (l : List Way) (within : Within n l) (e 
     pub family-ends : final .ending ≡ ended
     family-ends = finish .ends
 
-    -- Theorem: the lists are the joint closure
-    pub family-closure : ClosureAlong n W e l p₀ (final .family)
-    family-closure =
+    -- Theorem: it leaves every switch at rest
+    pub family-rests : (i : ℕ) → i < n → AtRest (W i .size) (W i .has) (final .family .session i)
+    family-rests = finish .rest
+
+    -- Theorem: with no answer 12 the lists are the joint closure
+    pub family-closure : ((i : ℕ) → i < n → PassesOwn (W i) (e i)) → final .family .twelves ≡ 0 → ClosureAlong n W e l p₀ (final .family)
+    family-closure own none-12 =
         let g = good-final in
         record {
           closed = record {
             stood = λ i b. listed-stays (W i) (e i) (p₀ .session i) (holds₀ i b) (g .goes i b .run);
             peels = λ i b. rest-closed (W i) (e i) (final .family .session i) (goes-holds (W i) (e i) (p₀ .session i) (holds₀ i b) (g .goes i b))
                 (finish .rest i b);
-            along = finish .along;
+            along = finish .along own none-12;
           };
           least = g .least;
         }
-
-    -- Theorem: the counts are those that each flowset yields by itself
-    pub family-counts : (i : ℕ) → i < n → (k : Key) → counted (final .family .session i) k ≡ counted (settleAt (W i) (p₀ .session i) .state) k
-    family-counts i b = counts-alone (W i) (e i) (p₀ .session i) (holds₀ i b) (fit₀ i b) _ (good-final .goes i b) (finish .rest i b)
 
 -- ---- the order makes no difference
 module _ (n : ℕ) (W : ℕ → Switch) (e : (i : ℕ) → Counted (W i)) (p : Family) where
@@ -239,5 +235,5 @@ module _ (n : ℕ) (W : ℕ → Switch) (e : (i : ℕ) → Counted (W i)) (p : F
       let closure : (f : List Way) → Within n f → exchangeAlong n W (bothWays f) p .family .twelves ≡ 0
       → ClosureAlong n W e (bothWays f) p (exchangeAlong n W (bothWays f) p .family)
       = λ f a t. let w = within-both n f a in
-      family-closure n W (bothWays f) w e p holds fit own (apart-undenied n W (bothWays f) w e p holds fit apart t) in
+      family-closure n W (bothWays f) w e p holds fit (apart-counted n W (bothWays f) w e p holds fit apart) own t in
       closure-same (bothWays l) (bothWays m) (both-same l m same) _ _ (closure l b y) (closure m c z)

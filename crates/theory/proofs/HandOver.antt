@@ -1,9 +1,9 @@
 -- Hand-overs and sequences of calls: what an accepted key is, and what every call keeps.
-use mathlib.Core.Path.{_≡_, refl, _∙_}
+use mathlib.Core.Path.{_≡_, refl, sym, ap, _∙_}
 use mathlib.Core.Logic.{inl, inr}
 use mathlib.Core.Bool.{true, false}
-use mathlib.Core.List.{List, [], _∷_}
-use Prim.Native.Nat.{_<_}
+use mathlib.Core.List.{List, [], _∷_, _++_, append-nil, append-assoc}
+use Prim.Native.Nat.{_+_, _<_}
 use native.Mathlib.Omega.{arith}
 use lib.ListN.{length}
 use lib.Dec.{eqb, leb}
@@ -11,13 +11,13 @@ use Rattle.laws.proofs.Bools.{split, clash, or-l, or-r}
 use Rattle.theory.specs.Flow.{Key, sameKey}
 use Rattle.theory.specs.Session.{Session, pure, handedOf, listed, handedOver, hasEmptyCell, takeOut}
 use Rattle.theory.specs.Settle.{next, peelPure, countStep}
-use Rattle.theory.specs.HandOver.{Switch, handAnswer, handOver, Call, hand, settling, call, calls}
+use Rattle.theory.specs.HandOver.{Switch, handAnswer, handOver, settleAt, Call, hand, settling, call, calls, accepted}
 use Rattle.theory.specs.Fits.{Fits}
 use Rattle.theory.proofs.Flow.{same-refl}
-use Rattle.theory.proofs.Records.{peeled-hand, handed-take, handed-more, handed-peel, handed-count}
+use Rattle.theory.proofs.Records.{peeled-hand, handed-take, handed-out, handed-more, handed-peel, handed-count}
 use Rattle.theory.proofs.Steps.{open-take, peel-next, peel-fits, count-next, count-fits}
-use Rattle.theory.proofs.Settle.{settle-keeps}
-use borrow.Author.Tests.{leb-false}
+use Rattle.theory.proofs.Settle.{settle-keeps, settle-handed}
+use borrow.Author.Tests.{leb-false, lt-leb, le-leb}
 
 -- the key is accepted
 pub record Accepts (w : Switch) (x : Key) (s : Session) : Type 0 where
@@ -46,11 +46,24 @@ pub hand-taken : (w : Switch) (x : Key) (s : Session) → handAnswer w x s ≡ 0
 unfolding handOver
 hand-taken w x s e = rw e
 
-pub hand-fits : (w : Switch) (x : Key) (s : Session) → Accepts w x s → Fits (w .size) s → Fits (w .size) (takeOut (w .has) true x s)
-hand-fits w x s a f = record {
-  handed-room = omega (arith, handed-more (w .has) s x, a .room);
+-- Theorem: 01 'Both sides of each edge': "Hand-over N succeeds, N + 1 is 12", of a key that 9, 10 and 11 let pass
+pub hand-edge : (w : Switch) (x : Key) (s : Session) → w .passes x ≡ true → listed s x ≡ false → hasEmptyCell (w .size) (w .has) (s .cells) x ≡ false
+    → (length (handedOf (s .list)) + 1 ≡ w .size → handAnswer w x s ≡ 0) × (length (handedOf (s .list)) ≡ w .size → handAnswer w x s ≡ 12)
+unfolding handAnswer
+hand-edge w x s p l c = (
+  λ e. rw (p, l, c, lt-leb (w .size) (length (handedOf (s .list))) (omega arith)),
+  λ e. rw (p, l, c, le-leb (w .size) (length (handedOf (s .list))) (omega arith)),
+)
+
+pub out-fits : (w : Switch) (x : Key) (s : Session) → length (handedOf (s .list)) < w .size → Fits (w .size) s
+    → Fits (w .size) (takeOut (w .has) true x s)
+out-fits w x s room f = record {
+  handed-room = omega (arith, handed-more (w .has) s x, room);
   peeled-room = rw (peeled-hand (w .has) s x) (omega (arith, f .peeled-room, open-take (w .size) (w .has) s x true));
 }
+
+pub hand-fits : (w : Switch) (x : Key) (s : Session) → Accepts w x s → Fits (w .size) s → Fits (w .size) (takeOut (w .has) true x s)
+hand-fits w x s a = out-fits w x s (a .room)
 
 -- ---- what each accepted hand-over and each step keeps, calls keep
 module _ (w : Switch) (I : Session → Type 0)
@@ -89,3 +102,16 @@ module _ (w : Switch) where
   pub hand-marks : (x : Key) (s : Session) → eqb (handAnswer w x s) 0 ≡ true → handedOver (handOver w x s) x ≡ true
   unfolding handOver
   hand-marks x s e = rw e (handed-take (w .has) s x x ∙ or-r (handedOver s x) (sameKey x x) (same-refl x))
+
+  -- Theorem: the flows handed over are those that were, and then the keys of the calls that were answered 0, in order
+  pub accepted-handed : (l : List Call) (s : Session) → handedOf (calls w l s .list) ≡ handedOf (s .list) ++ accepted w l s
+  unfolding calls call accepted
+  accepted-handed [] s = sym (append-nil (handedOf (s .list)))
+  accepted-handed (settling ∷ l) s =
+      let t = settleAt w s .state in
+      accepted-handed l t ∙ ap (λ h. h ++ accepted w l t) (settle-handed (w .size) (w .has) s)
+  accepted-handed (hand x ∷ l) s = accepted-handed l (handOver w x s) ∙ unfold handOver in elim (split (eqb (handAnswer w x s) 0)) [
+    | inr z ↦ rw z
+    | inl z ↦ rw z (ap (λ h. h ++ accepted w l (takeOut (w .has) true x s)) (handed-out (w .has) s x)
+        ∙ append-assoc (handedOf (s .list)) (x ∷ []) (accepted w l (takeOut (w .has) true x s)))
+  ]

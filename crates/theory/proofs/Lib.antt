@@ -18,6 +18,7 @@ pub mod Steps
 pub mod Settle
 pub mod HandOver
 pub mod Calls
+pub mod Truthful
 pub mod Demands
 pub mod Whole
 pub mod Alone
@@ -36,4 +37,4 @@ pub mod Exchange
 -- the ten cases
 pub mod Cases
 pub mod Unclean
-pub mod Collector
+pub mod Hollow

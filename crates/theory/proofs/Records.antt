@@ -157,13 +157,15 @@ module _ (has : Placement) (s : Session) (x : Key) where
         bools true false = refl
         bools true true = refl
 
-  pub handed-take : (k : Key) → handedOver (takeOut has true x s) k ≡ (handedOver s k || sameKey k x)
+  pub handed-out : handedOf (takeOut has true x s .list) ≡ handedOf (s .list) ++ (x ∷ [])
   unfolding takeOut
-  handed-take k = rw (where-append (λ r. r .handed) (s .list) (newRecord true x)) (among-append k (handedOf (s .list)) x)
+  handed-out = where-append (λ r. r .handed) (s .list) (newRecord true x)
+
+  pub handed-take : (k : Key) → handedOver (takeOut has true x s) k ≡ (handedOver s k || sameKey k x)
+  handed-take k = rw handed-out (among-append k (handedOf (s .list)) x)
 
   pub handed-more : length (handedOf (takeOut has true x s .list)) ≡ length (handedOf (s .list)) + 1
-  unfolding takeOut
-  handed-more = rw (where-append (λ r. r .handed) (s .list) (newRecord true x)) (simp length-append)
+  handed-more = rw handed-out (simp length-append)
 
   pub handed-peel : handedOf (takeOut has false x s .list) ≡ handedOf (s .list)
   unfolding takeOut

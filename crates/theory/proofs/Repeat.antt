@@ -1,5 +1,5 @@
 -- A step repeated with enough fuel: what each step keeps is kept, and the end is where the step stops.
-use mathlib.Core.Path.{_≡_, refl, ap, _∙_}
+use mathlib.Core.Path.{_≡_, refl, sym, ap, _∙_}
 use Prim.Native.Nat.{ℕ, zero, suc, _≤_, _<_}
 use native.Mathlib.Omega.{arith}
 use Rattle.theory.specs.Settle.{Step, quiet, full, damaged, next, Stop, settled, listFull, damage, Result, afterStep, repeat}
@@ -10,6 +10,11 @@ abbrev pub stepOf : {S : Type 0} → Stop → Step S
 stepOf settled = quiet
 stepOf (listFull c) = full c
 stepOf (damage c) = damaged c
+
+pub quiet-only : {S : Type 0} (stop : Stop) → _≡_ {A = Step S} quiet (stepOf stop) → settled ≡ stop
+quiet-only settled e = refl
+quiet-only (listFull c) e = absurd (let z : _≡_ {A = ℕ} 0 1 = cc in omega arith)
+quiet-only (damage c) e = absurd (let z : _≡_ {A = ℕ} 0 1 = cc in omega arith)
 
 module _ {S : Type 0} (f : S → Step S) where
   turn-keeps : (I : S → Type 0) (go : S → Result S) (s : S) (v : Step S) → I s → ((t : S) → v ≡ next t → I (go t .state))
@@ -39,6 +44,14 @@ module _ {S : Type 0} (f : S → Step S) where
     unfolding repeat
     repeat-ends zero s l = idle s (omega arith)
     repeat-ends (suc m) s l = turn-ends (repeat f m) s (f s) refl (λ t e. repeat-ends m t (omega (arith, falls s t e)))
+
+    -- from where the step stops, it stops at once, the same way
+    pub repeat-still : (m : ℕ) (s : S) → μ s ≤ m → (stop : Stop) → f s ≡ stepOf stop → repeat f m s ≡ record { state = s; stop = stop }
+    unfolding repeat afterStep
+    repeat-still zero s l stop e = ap (λ r. record { state = s; stop = r }) (quiet-only stop (sym (idle s (omega arith)) ∙ e))
+    repeat-still (suc m) s l settled e = rw e
+    repeat-still (suc m) s l (listFull c) e = rw e
+    repeat-still (suc m) s l (damage c) e = rw e
 
 -- a step that does the same under a map, repeated
 module _ {S T : Type 0} (f : S → Step S) (g : T → Step T) (h : S → T) (I : S → Type 0) (kept : (s t : S) → I s → f s ≡ next t → I t)

@@ -12,24 +12,30 @@ use Rattle.laws.proofs.Upto.{any-no, any-none}
 use Rattle.theory.specs.Flow.{Key, among}
 use Rattle.theory.specs.Encode.{Placement}
 use Rattle.theory.specs.Session.{Session, unknownsOf, handedOf, listed, pure, ready, theUnknown, hasEmptyCell, openCells}
-use Rattle.theory.specs.Settle.{next, Stop, settled, listFull, damage, peelDamaged, peelPure}
-use Rattle.theory.specs.Settle.{countDamaged, countStep, peels, counts, thenCounts, settle}
+use Rattle.theory.specs.Settle.{quiet, full, damaged, next, Stop, settled, listFull, damage, peelDamaged, peelPure}
+use Rattle.theory.specs.Settle.{peel, countDamaged, countStep, peels, counts, thenCounts, settle}
 use Rattle.theory.specs.Fits.{Fits}
 use Rattle.theory.specs.HandOver.{Switch}
 use Rattle.theory.specs.Invariant.{Counted, Holds}
-use Rattle.theory.specs.Runs.{Run, peeled, told, AtRest}
+use Rattle.theory.specs.Runs.{Run, peeled, told, Going, AtRest}
 use Rattle.theory.proofs.Records.{handed-peel, handed-count}
 use Rattle.theory.proofs.Outside.{outside-not}
 use Rattle.theory.proofs.Invariant.{count-within}
 use Rattle.theory.proofs.Single.{pure-only, ready-only, ready-unknown, ready-count, unlisted-open}
 use Rattle.theory.proofs.Runs.{run-invariant}
-use Rattle.theory.proofs.Repeat.{stepOf, repeat-keeps, repeat-ends}
+use Rattle.theory.proofs.Repeat.{stepOf, repeat-keeps, repeat-ends, repeat-still}
 use Rattle.theory.proofs.Steps.{pure-count, peel-next, peel-quiet, peel-falls, peel-idle, peel-fits, count-next, count-quiet, count-falls}
 use Rattle.theory.proofs.Steps.{count-idle, count-fits, never-full}
 use Rattle.theory.proofs.Steps.{peel-damaged, count-damaged, count-room}
 use Rattle.laws.specs.Upto.{lowest}
 use borrow.Author.Tests.{le-ltb}
 use Rattle.laws.proofs.Lowest.{lowest-hit, number-max}
+
+-- where settling ends: at a peel that is answered with 13 or 14, or where no cell is pure at a count step, or with no cell ready
+pub data EndsAt (n : ℕ) (has : Placement) (s : Session) : Stop → Type 0 where
+  peeling-full : (c : ℕ) → peelPure n has s ≡ full c → EndsAt n has s (listFull c)
+  peeling-damaged : (c : ℕ) → peelPure n has s ≡ damaged c → EndsAt n has s (damage c)
+  after-peeling : (stop : Stop) → peelPure n has s ≡ quiet → countStep n has s ≡ stepOf stop → EndsAt n has s stop
 
 -- ---- on any session
 module _ (n : ℕ) (has : Placement) where
@@ -62,6 +68,44 @@ module _ (n : ℕ) (has : Placement) where
   pub settled-rests : (s : Session) → settle n has s .stop ≡ settled → AtRest n has (settle n has s .state)
   unfolding settle
   settled-rests s = then-rests (peels n has s .state) (peels n has s .stop) (peels-end s)
+
+  -- ---- settling again
+  peels-still : (s : Session) (stop : Stop) → peelPure n has s ≡ stepOf stop → peels n has s ≡ record { state = s; stop = stop }
+  peels-still s = repeat-still (peelPure n has) (λ t. openCells n (t .cells)) (peel-falls n has) (peel-idle n has) n s
+      (unfold openCells in number-max n (λ c. ltb 0 (s .cells c .flowCount)))
+
+  counts-still : (s : Session) (stop : Stop) → countStep n has s ≡ stepOf stop → counts n has s ≡ record { state = s; stop = stop }
+  counts-still s = repeat-still (countStep n has) (λ t. length (unknownsOf (t .list))) (count-falls n has) (count-idle n has)
+      (length (unknownsOf (s .list))) s (le-refl _)
+
+  -- where counts were worked out, no cell is pure still
+  counts-quiet : (s : Session) → peelPure n has s ≡ quiet → peelPure n has (counts n has s .state) ≡ quiet
+  unfolding peel
+  counts-quiet s e =
+      let t = counts n has s .state in
+      rw (any-no n (pure has (t .cells)) (repeat-keeps (countStep n has) NonePure none-pure-kept (length (unknownsOf (s .list))) s
+      (any-none n (pure has (s .cells)) (peel-quiet n has (pure has (s .cells)) s e))))
+
+  then-ends : (s : Session) (stop : Stop) → peelPure n has s ≡ stepOf stop → EndsAt n has (thenCounts n has s stop .state) (thenCounts n has s stop .stop)
+  unfolding thenCounts
+  then-ends s settled e = after-peeling (counts n has s .stop) (counts-quiet s e) (counts-end s)
+  then-ends s (listFull c) e = peeling-full c e
+  then-ends s (damage c) e = peeling-damaged c e
+
+  -- Theorem: where a settling ends, the next step stops it the same way
+  pub settle-ends : (s : Session) → EndsAt n has (settle n has s .state) (settle n has s .stop)
+  unfolding settle
+  settle-ends s = then-ends (peels n has s .state) (peels n has s .stop) (peels-end s)
+
+  ends-still : (s : Session) (stop : Stop) → EndsAt n has s stop → settle n has s ≡ record { state = s; stop = stop }
+  unfolding settle thenCounts
+  ends-still s stop (after-peeling _ p c) = rw (peels-still s settled p) (counts-still s stop c)
+  ends-still s stop (peeling-full c e) = rw (peels-still s (listFull c) e)
+  ends-still s stop (peeling-damaged c e) = rw (peels-still s (damage c) e)
+
+  -- Theorem: settling what a settling left changes nothing and answers the same, 14 with its cell too; whatever the cells hold
+  pub settle-again : (s : Session) → settle n has (settle n has s .state) ≡ settle n has s
+  settle-again s = ends-still (settle n has s .state) (settle n has s .stop) (settle-ends s)
 
   -- ---- what each step keeps, settling keeps
   module _ (I : Session → Type 0) (peel-kept : (s t : Session) → I s → peelPure n has s ≡ next t → I t)
@@ -129,9 +173,8 @@ module _ (w : Switch) (e : Counted w) (s₀ : Session) (i₀ : Holds w e s₀) w
   ])
 
   -- a run with room
-  pub record Going (s : Session) : Type 0 where
-    pub run : Run has F s₀ s
-    pub fits : Fits n s
+  abbrev Goes : Session → Type 0
+  Goes = Going w F s₀
 
   module _ (s : Session) (r : Run has F s₀ s) (c : ℕ) where
     abbrev i : Holds w e s
@@ -162,7 +205,7 @@ module _ (w : Switch) (e : Counted w) (s₀ : Session) (i₀ : Holds w e s₀) w
           ]),
         )
 
-  peel-going : (s t : Session) → Going s → peelPure n has s ≡ next t → Going t
+  peel-going : (s t : Session) → Goes s → peelPure n has s ≡ next t → Goes t
   peel-going s t g e =
       let p = peel-next n has (pure has (s .cells)) s t e in
       let c = lowest n (pure has (s .cells)) in
@@ -171,7 +214,7 @@ module _ (w : Switch) (e : Counted w) (s₀ : Session) (i₀ : Holds w e s₀) w
         fits = peel-fits n has s t (g .fits) e;
       }
 
-  count-going : (s t : Session) → Going s → countStep n has s ≡ next t → Going t
+  count-going : (s t : Session) → Goes s → countStep n has s ≡ next t → Goes t
   count-going s t g e =
       let p = count-next n has s t e in
       let c = lowest n (ready has s) in
@@ -180,14 +223,14 @@ module _ (w : Switch) (e : Counted w) (s₀ : Session) (i₀ : Holds w e s₀) w
         fits = count-fits n has s t (g .fits) e;
       }
 
-  peel-goes : (s : Session) → Going s → (stop : Stop) → peelPure n has s ≡ stepOf stop → stop ≡ settled
+  peel-goes : (s : Session) → Goes s → (stop : Stop) → peelPure n has s ≡ stepOf stop → stop ≡ settled
   peel-goes s g settled e = refl
   peel-goes s g (listFull c) e = absurd (never-full n has s c (g .fits) e)
   peel-goes s g (damage c) e =
       let p = peel-damaged n has (pure has (s .cells)) s c e in
       clash (p .1) (peel-sound s (g .run) (lowest n (pure has (s .cells))) (lowest-hit n (pure has (s .cells)) (p .0)))
 
-  count-goes : (s : Session) → Going s → (stop : Stop) → countStep n has s ≡ stepOf stop → stop ≡ settled
+  count-goes : (s : Session) → Goes s → (stop : Stop) → countStep n has s ≡ stepOf stop → stop ≡ settled
   count-goes s g settled e = refl
   count-goes s g (listFull c) e = absurd (count-room n has s c e)
   count-goes s g (damage c) e =
@@ -195,7 +238,7 @@ module _ (w : Switch) (e : Counted w) (s₀ : Session) (i₀ : Holds w e s₀) w
       clash (p .1) (count-sound s (g .run) (lowest n (ready has s)) (lowest-hit n (ready has s) (p .0)))
 
   -- Theorem: settling a run answers 0, is a run, and ends at rest
-  pub settle-clean : (s : Session) → Going s → Going (settle n has s .state) × (settle n has s .stop ≡ settled) × AtRest n has (settle n has s .state)
+  pub settle-clean : (s : Session) → Goes s → Goes (settle n has s .state) × (settle n has s .stop ≡ settled) × AtRest n has (settle n has s .state)
   settle-clean s g =
-      let z = settle-goes n has Going peel-going count-going peel-goes count-goes s g in
-      (settle-keeps n has Going peel-going count-going s g, z, settled-rests n has s z)
+      let z = settle-goes n has Goes peel-going count-going peel-goes count-goes s g in
+      (settle-keeps n has Goes peel-going count-going s g, z, settled-rests n has s z)

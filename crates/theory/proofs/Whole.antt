@@ -18,7 +18,7 @@ use Rattle.theory.specs.Report.{whole, report}
 use Rattle.theory.specs.Demands.{HandedCounted}
 use Rattle.theory.proofs.Records.{counts-said}
 use Rattle.theory.proofs.Single.{zero-listed}
-use Rattle.theory.proofs.Demands.{after, after-holds}
+use Rattle.theory.proofs.Demands.{stands-received, stands-calls, stands-holds}
 use borrow.Author.Tests.{ltb-false}
 use Rattle.laws.proofs.Lowest.{number-some}
 
@@ -65,16 +65,23 @@ module _ (w : Switch) (e : Counted w) (s : Session) (i : Holds w e s) (z : repor
 
 -- Theorem: two collections of flows that encode to the same cells are the same, if a session of these cells reports whole
 module _ (w : Switch) (e f : Counted w) (same : received w e ≡ received w f) (l : List Call)
-    (oursE : HandedCounted (e .flows) (after w e l)) (oursF : HandedCounted (f .flows) (after w f l))
-    (z : report (w .size) (after w e l) .state ≡ whole) where
-  holds-f : Holds w f (after w e l)
-  holds-f = subst (Holds w f) (ap (calls w l) (sym same)) (after-holds w f l oursF)
+    (oursE : HandedCounted (e .flows) (calls w l (received w e))) (oursF : HandedCounted (f .flows) (calls w l (received w f)))
+    (z : report (w .size) (calls w l (received w e)) .state ≡ whole) where
+  abbrev after : Session
+  after = calls w l (received w e)
+
+  holds-e : Holds w e after
+  holds-e = stands-holds w e after (stands-calls w e l (received w e) (stands-received w e) oursE)
+
+  holds-f : Holds w f after
+  holds-f = subst (Holds w f) (ap (calls w l) (sym same))
+      (stands-holds w f (calls w l (received w f)) (stands-calls w f l (received w f) (stands-received w f) oursF))
 
   pub same-flows : (k : Key) → among k (e .flows) ≡ among k (f .flows)
-  same-flows k = sym (whole-flows w e (after w e l) (after-holds w e l oursE) z k) ∙ whole-flows w f (after w e l) holds-f z k
+  same-flows k = sym (whole-flows w e after holds-e z k) ∙ whole-flows w f after holds-f z k
 
   pub same-packets : (k : Key) → among k (e .flows) ≡ true → e .packets k ≡ f .packets k
   same-packets k m =
-      let p = whole-counts w e (after w e l) (after-holds w e l oursE) z k m in
-      let q = whole-counts w f (after w e l) holds-f z k (sym (same-flows k) ∙ m) in
+      let p = whole-counts w e after holds-e z k m in
+      let q = whole-counts w f after holds-f z k (sym (same-flows k) ∙ m) in
       cc

@@ -6,11 +6,11 @@ use Prim.Native.Nat.{ℕ, zero, suc, _+_, _*_}
 use lib.ListN.{length}
 use lib.Dec.{eqb, ltb}
 use Rattle.theory.specs.Flow.{Key, among}
-use Rattle.theory.specs.Session.{Session, keysOf, listed}
+use Rattle.theory.specs.Session.{Session, keysOf, listed, countOf}
 use Rattle.theory.specs.Settle.{Stop, settled, listFull, damage}
 use Rattle.theory.specs.HandOver.{Switch, handAnswer, handOver, calls, handEach, settleAt}
 use Rattle.theory.specs.Runs.{PeelClosed}
-use Rattle.theory.specs.Invariant.{Counted}
+use Rattle.theory.specs.Invariant.{Counted, received}
 use Rattle.theory.specs.Demands.{HandedCounted}
 
 -- the two sessions, and the number of answers 12 so far
@@ -97,11 +97,10 @@ exchange A B p = thenRounds A B (2 * A .size + 2 * B .size + 1) (settleBoth A B 
 abbrev pub PassesOwn : (w : Switch) → Counted w → Type 0
 PassesOwn w e = (k : Key) → among k (e .flows) ≡ true → w .passes k ≡ true
 
--- 01 'A session', Exchange: "Under demand 2's premises at both switches, and with no answer 12": every flow handed over was counted here
-pub record Undenied (A B : Switch) (e : Counted A) (f : Counted B) (q : Pair) : Type 0 where
+-- 01 'A session', Exchange: "Under demand 2's premises at both switches": every flow handed over was counted there
+pub record BothCounted (A B : Switch) (e : Counted A) (f : Counted B) (q : Pair) : Type 0 where
   pub ours-a : HandedCounted (e .flows) (q .a)
   pub ours-b : HandedCounted (f .flows) (q .b)
-  pub no-twelve : q .twelves ≡ 0
 
 -- two sets of flows that hold what stood there, what each table then peels, and the other's flows that were counted here
 pub record JointlyClosed (A B : Switch) (e : Counted A) (f : Counted B) (p : Pair) (X Y : Key → Bool) : Type 0 where
@@ -118,3 +117,8 @@ pub record JointClosure (A B : Switch) (e : Counted A) (f : Counted B) (p q : Pa
   pub closed : JointlyClosed A B e f p (listed (q .a)) (listed (q .b))
   pub least-a : (X Y : Key → Bool) → JointlyClosed A B e f p X Y → (k : Key) → listed (q .a) k ≡ true → X k ≡ true
   pub least-b : (X Y : Key → Bool) → JointlyClosed A B e f p X Y → (k : Key) → listed (q .b) k ≡ true → Y k ≡ true
+
+-- 01 'A session', Exchange: "Counts known after settling are then those the flowset yields by itself", at both switches
+pub record CountsAlone (A B : Switch) (e : Counted A) (f : Counted B) (q : Pair) : Type 0 where
+  pub alone-a : (k : Key) → countOf (q .a .list) k ≡ countOf (settleAt A (received A e) .state .list) k
+  pub alone-b : (k : Key) → countOf (q .b .list) k ≡ countOf (settleAt B (received B f) .state .list) k

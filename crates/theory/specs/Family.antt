@@ -125,10 +125,9 @@ unfoldable pub exchangeAlong : ℕ → (ℕ → Switch) → List Way → Family 
 exchangeAlong n W l p = andThen (roundsAlong n W l (roundsRoom n W + 1)) (settleUpto W n p) (settleUpto W n p .ending)
 
 -- ---- what it ends in
--- 01 'A session', Exchange: "Under demand 2's premises at both switches, and with no answer 12": every flow handed over was counted there
-pub record UndeniedAlong (n : ℕ) (W : ℕ → Switch) (e : (i : ℕ) → Counted (W i)) (q : Family) : Type 0 where
-  pub ours : (i : ℕ) → i < n → HandedCounted (e i .flows) (q .session i)
-  pub no-twelve : q .twelves ≡ 0
+-- demand 2's premise at each switch: every flow handed over was counted there
+abbrev pub AllCounted : ℕ → (W : ℕ → Switch) → ((i : ℕ) → Counted (W i)) → Family → Type 0
+AllCounted n W e q = (i : ℕ) → i < n → HandedCounted (e i .flows) (q .session i)
 
 -- no flow of one switch passes the filter of another that did not count it
 abbrev pub FiltersApart : ℕ → (W : ℕ → Switch) → ((i : ℕ) → Counted (W i)) → Type 0

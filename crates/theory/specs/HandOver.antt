@@ -45,6 +45,14 @@ unfoldable pub calls : Switch → List Call → Session → Session
 calls w [] s = s
 calls w (a ∷ later) s = calls w later (call w a s)
 
+-- mission: "accepted": the keys of the hand-overs that were answered 0, in order
+unfoldable pub accepted : Switch → List Call → Session → List Key
+accepted w [] s = []
+accepted w (settling ∷ later) s = accepted w later (settleAt w s .state)
+accepted w (hand x ∷ later) s =
+    let rest = accepted w later (handOver w x s) in
+    cond (eqb (handAnswer w x s) 0) (x ∷ rest) rest
+
 -- each key of a list handed over in order
 unfoldable pub handEach : List Key → List Call
 handEach [] = []

@@ -16,3 +16,4 @@ pub mod Proper
 pub mod Cases
 pub mod Unclean
 pub mod Collector
+pub mod Hollow

@@ -6,7 +6,9 @@ use Prim.Native.Nat.{ℕ, _<_}
 use Rattle.theory.specs.Flow.{Key, among}
 use Rattle.theory.specs.Encode.{Placement}
 use Rattle.theory.specs.Session.{Session, listed, pure, ready, theUnknown, takeOut, setCount}
-use Rattle.theory.specs.Invariant.{outside}
+use Rattle.theory.specs.HandOver.{Switch}
+use Rattle.theory.specs.Fits.{Fits}
+use Rattle.theory.specs.Invariant.{Counted, received, outside}
 
 pub data Run (has : Placement) (F : List Key) (s₀ : Session) : Session → Type 0 where
   start : Run has F s₀ s₀
@@ -14,6 +16,15 @@ pub data Run (has : Placement) (F : List Key) (s₀ : Session) : Session → Typ
   peeled : {s : Session} (c : ℕ) → Run has F s₀ s → pure has (s .cells) c ≡ true → Run has F s₀ (takeOut has false (s .cells c .flowXor) s)
   told : {s : Session} (c : ℕ) → Run has F s₀ s → ready has s c ≡ true
       → Run has F s₀ (setCount has (theUnknown has (s .list) c) (s .cells c .packetCount) s)
+
+-- a run with the room that the test of 8 asks for
+pub record Going (w : Switch) (F : List Key) (s₀ s : Session) : Type 0 where
+  pub run : Run (w .has) F s₀ s
+  pub fits : Fits (w .size) s
+
+-- a session of the flows that a switch counted: a run from what it received
+abbrev pub Stands : (w : Switch) → Counted w → Session → Type 0
+Stands w e = Going w (e .flows) (received w e)
 
 -- x is the one key of the list that passes
 pub record Only (passes : Key → Bool) (l : List Key) (x : Key) : Type 0 where

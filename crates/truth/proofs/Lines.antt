@@ -18,14 +18,7 @@ use Rattle.theory.specs.Invariant.{CountsRight}
 use Rattle.theory.proofs.Flow.{same-refl, same-eq}
 use Rattle.link.specs.View.{recordAt, recordsOf}
 use Rattle.truth.specs.Printed.{flowLines}
-
--- the line of a record, and of each record of a list
-abbrev lineOf : Record → List ℕ
-lineOf r = flowLine (keyFrom (r .key)) (r .known) (r .count)
-
-unfoldable pub linesOf : List Record → List ℕ
-linesOf [] = []
-linesOf (r ∷ rs) = lineOf r ++ linesOf rs
+use Rattle.truth.specs.Page.{lineOf, linesOf}
 
 lines-append : (rs : List Record) (r : Record) → linesOf (rs ++ (r ∷ [])) ≡ linesOf rs ++ lineOf r
 unfolding linesOf

@@ -9,7 +9,6 @@ use borrow.Author.Tests.{ltb-false}
 use lib.Dec.{ltb}
 use lib.ListN.{length, replicate, length-replicate}
 use Rattle.laws.specs.BigEndian.{bytesOf}
-use Rattle.laws.specs.Upto.{listUpto}
 use Rattle.laws.proofs.Bools.{split, clash}
 use Rattle.laws.proofs.Lowest.{number-same, number-some}
 use Rattle.laws.proofs.Upto.{any-some}
@@ -48,18 +47,19 @@ use Rattle.theory.specs.Settle.{Stop, stopNumber}
 use Rattle.theory.specs.Settle as stop
 use Rattle.theory.specs.HandOver.{settling, settleAt}
 use Rattle.theory.specs.Report as theory-report
+use Rattle.theory.specs.Demands.{keep}
 use Rattle.theory.proofs.Alone.{alone-known}
-use Rattle.theory.proofs.Flow.{same-eq}
+use Rattle.theory.proofs.Flow.{same-eq, among-none}
 use Rattle.theory.proofs.Records.{keys-length}
-use Rattle.link.proofs.Test8.{session-proper}
-use Rattle.demands.specs.Calls.{Live, afterSettle, callOn, callsOn, KeysFit, viewed, Passing}
-use Rattle.demands.specs.Demands.{Received, keep, Demand2}
+use Rattle.demands.specs.Calls.{Live, afterSettle, callOn, callsOn, accepted, KeysFit, viewed, Passing}
+use Rattle.demands.specs.Demands.{Received, Demand2At}
 use Rattle.demands.proofs.Received.{openedLive, goes-through, received-passing, received-viewed, received-switch}
 use Rattle.demands.proofs.Steps.{settle-follows, settle-number}
 use Rattle.demands.proofs.Reported.{report-counts}
 use Rattle.demands.proofs.Demands.{demand-2}
 use Rattle.truth.specs.Printed.{startLeaves, takenSince, Written, flowLines, opensLeft, reportAlone, Prints}
-use Rattle.truth.proofs.Lines.{linesOf, lines-of, counts-right, right-lines}
+use Rattle.truth.specs.Page.{linesOf}
+use Rattle.truth.proofs.Lines.{lines-of, counts-right, right-lines}
 
 -- answer 0 lists flows
 settled-listed : (slot salt : ℕ) (numbers : Session) (m : Memory) (a : Settled) → settleNumber a ≡ 0
@@ -71,7 +71,7 @@ settled-listed slot salt numbers m (settled.Damaged n c) e = absurd (omega arith
 settled-listed slot salt numbers m settled.NotSession e = absurd (omega arith)
 settled-listed slot salt numbers m settled.BadRoom e = absurd (omega arith)
 
-same-sizes : (numbers : Session) (a : Settled) → afterSettle numbers a .sizes ≡ numbers .sizes
+pub same-sizes : (numbers : Session) (a : Settled) → afterSettle numbers a .sizes ≡ numbers .sizes
 same-sizes numbers (settled.Done n) = refl
 same-sizes numbers (settled.Full n c) = refl
 same-sizes numbers (settled.Damaged n c) = refl
@@ -144,11 +144,11 @@ module _ (z : Sizes) (salt slot : ℕ) (salt-fits : salt < 2 ^ 32) (slot-fits : 
   passing : Passing l v
   passing = received-passing l lays-ipv4 z salt slot m v received
 
-  demand : Demand2 l z salt taken v
-  unfolding callsOn KeysFit
+  demand : Demand2At l z salt taken v
+  unfolding callsOn KeysFit accepted
   demand = demand-2 z salt slot packets v received [] tt (record {
     clean = clean;
-    accepted-counted = λ k h. unfold listUpto keysWhere among in clash h refl;
+    accepted-counted = λ k h. among-none k h;
   })
 
   abbrev u : Live
@@ -160,12 +160,11 @@ module _ (z : Sizes) (salt slot : ℕ) (salt-fits : salt < 2 ^ 32) (slot-fits : 
   abbrev flows : List Key
   flows = keysOf (s .list)
 
-  settled-passing : Passing l u
+  pub settled-passing : Passing l u
   settled-passing = settle-follows l v passing .passing
 
   once : Distinct flows
-  once = session-proper l (u .numbers .sizes) (u .numbers .salt) (u .numbers .listed) (u .room .table) (u .room .packets) (u .room .list)
-      (settled-passing .lent) (settled-passing .passes) .0 .apart
+  once = demand .truthful-settled .listed-once
 
   -- without hand-overs no count is unknown
   all-known : unknownsOf (s .list) ≡ []
@@ -208,9 +207,13 @@ module _ (z : Sizes) (salt slot : ℕ) (salt-fits : salt < 2 ^ 32) (slot-fits : 
   unfolding imageLines readLines
   image-lines = rw (read-back l lays-ipv4 z (m .filter) (m .cells) sealable salt slot salt-fits slot-fits .0)
 
+  -- what is printed are the lines of the settled session
+  pub shows : printed (bytesOf 4 slot ++ image) ≡ listedLines slot salt n (u .room .table .flows) (u .room .list)
+  shows = slot-image slot image slot-fits ∙ ap (imageLines slot) image-is ∙ image-lines ∙ session-is
+
   text : printed (bytesOf 4 slot ++ image) ≡ headLine slot salt (reportAlone (length flows) (opensLeft z salt F flows)) ++ flowLines (packetsOf taken) flows
   unfolding listedLines
-  text = slot-image slot image slot-fits ∙ ap (imageLines slot) image-is ∙ image-lines ∙ session-is
+  text = shows
       ∙ ap₂ (λ (r : Report) (t : List ℕ). headLine slot salt r ++ t) reported (lines-of (u .room .list) n ∙ lines-are)
 
   -- every flow has a cell, and where it is not listed that cell is open

@@ -1,2 +1,3 @@
 -- What the theorem says.
 pub mod Printed
+pub mod Page

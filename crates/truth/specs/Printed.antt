@@ -20,7 +20,7 @@ use Rattle.lines.specs.Text.{headLine, flowLine}
 use Rattle.theory.specs.Flow.{Key, among, Distinct, count}
 use Rattle.theory.specs.Encode.{Taken, flowsOf, packetsOf}
 use Rattle.theory.specs.Runs.{PeelClosed}
-use Rattle.demands.specs.Demands.{keep}
+use Rattle.theory.specs.Demands.{keep}
 
 -- ---- the way into an image
 -- working memory as a start leaves it

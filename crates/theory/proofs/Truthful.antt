@@ -1,4 +1,4 @@
--- The theory's invariant in the mission's words.
+-- The invariant's cells in the mission's words: they encode the flows not listed, with the packets of those not counted.
 use mathlib.Core.Path.{_≡_, refl, sym, ap, _∙_}
 use mathlib.Core.Bool.{Bool, true, false, not, cond, _&&_}
 use mathlib.Core.List.{List, [], _∷_}
@@ -9,14 +9,13 @@ use native.Mathlib.Omega.{arith}
 use lib.ListN.{replicate}
 use Rattle.laws.specs.Xor.{xorBytes}
 use Rattle.laws.proofs.Bools.{split}
-use Rattle.theory.specs.Flow.{Key, sumOver, count}
-use Rattle.theory.specs.Encode.{Cell, encodeCell}
+use Rattle.theory.specs.Flow.{Key, sumOver}
+use Rattle.theory.specs.Encode.{encodeCell}
 use Rattle.theory.specs.Session.{Session, listed, counted}
 use Rattle.theory.specs.HandOver.{Switch}
 use Rattle.theory.specs.Invariant.{Counted, Holds, outside}
-use Rattle.theory.specs.Demands.{Yields}
-use Rattle.theory.proofs.Records.{counts-said}
-use Rattle.demands.specs.Demands.{keep, Truthful, AtEnd}
+use Rattle.theory.specs.Demands.{keep}
+use Rattle.theory.proofs.Encode.{cell-path}
 
 -- the sum over the keys kept is the sum over those that pass both tests
 keep-sum : {M : Type 0} (op : M → M → M) (e : M) (w : Key → M) (P Q : Key → Bool) (F : List Key)
@@ -35,28 +34,15 @@ valueOf d none = d
 valueOf d (some n) = n
 
 -- a count that is stated is the flow's
-stated : (b : Bool) (n v : ℕ) → cond b (some v) none ≡ some n → n ≡ v
+pub stated : (b : Bool) (n v : ℕ) → cond b (some v) none ≡ some n → n ≡ v
 stated true n v e = let q : v ≡ n = ap (valueOf 0) e in sym q
 stated false n v e = let q : n + 1 ≡ n = ap (valueOf (n + 1)) e in absurd (omega arith)
 
-cell-path : {a b : Cell} → a .flowXor ≡ b .flowXor → a .flowCount ≡ b .flowCount → a .packetCount ≡ b .packetCount → a ≡ b
-cell-path x f p = λ i. record { flowXor = x i; flowCount = f i; packetCount = p i }
-
 module _ (w : Switch) (e : Counted w) (s : Session) (i : Holds w e s) where
-  left-is : (c : ℕ) → s .cells c ≡ encodeCell (e .keyLength) (w .has) (keep (λ k. not (listed s k)) (e .flows))
+  pub left-is : (c : ℕ) → s .cells c ≡ encodeCell (e .keyLength) (w .has) (keep (λ k. not (listed s k)) (e .flows))
       (keep (λ k. not (counted s k)) (e .flows)) (e .packets) c
   unfolding encodeCell outside
-  left-is c = cell-path
+  left-is c = cell-path (s .cells c) _
       (i .xors c ∙ sym (keep-sum xorBytes (replicate (e .keyLength) 0) (λ k. k) (λ k. w .has k c) (λ k. not (listed s k)) (e .flows)))
       (i .flows c ∙ sym (keep-sum _+_ 0 (λ k. 1) (λ k. w .has k c) (λ k. not (listed s k)) (e .flows)))
       (i .left c ∙ sym (keep-sum _+_ 0 (e .packets) (λ k. w .has k c) (λ k. not (counted s k)) (e .flows)))
-
-  pub holds-truthful : Truthful (e .keyLength) (w .has) (e .flows) (e .packets) s
-  holds-truthful = record {
-    listed-counted = i .inside;
-    counts-true = λ k n q. stated (counted s k) n (e .packets k) (sym (counts-said (e .packets) s (i .apart) (i .right) k) ∙ q);
-    cells-left = left-is;
-  }
-
-  pub yields-end : Yields (w .has) (e .flows) (e .packets) s → AtEnd (w .has) (e .flows) s
-  yields-end y = record { none-unlisted = y .closed; none-uncounted = λ c x full. y .counted-closed c x }
