@@ -2,7 +2,7 @@
 use mathlib.Core.Path.{_≡_, refl, sym, ap, _∙_}
 use mathlib.Core.Bool.{true}
 use mathlib.Core.List.{List, _++_}
-use mathlib.Core.Logic.{inl}
+use mathlib.Core.Logic.{inl, inr}
 use Prim.Native.Nat.{ℕ, _+_, _-_, _*_, _<_, _≤_}
 use native.Mathlib.Nat.{mul-le-mul, mul-le-mul-right}
 use native.Mathlib.Omega.{arith}
@@ -69,6 +69,24 @@ module _ (l : Layout) (keys : List ℕ) where
   pub key-kept : (n : ℕ) (key : List ℕ) (i : ℕ) → i < n → keyAt l (sets keys (n * l .key) key) i ≡ keyAt l keys i
   unfolding keyAt
   key-kept n key i h = part-sets-other key keys (n * l .key) (i * l .key) (l .key) 0 (inl (row-within i n (l .key) h))
+
+  -- and those past it
+  pub key-past : (n : ℕ) (key : List ℕ) (i : ℕ) → length key ≡ l .key → n < i → keyAt l (sets keys (n * l .key) key) i ≡ keyAt l keys i
+  unfolding keyAt
+  key-past n key i e h =
+      part-sets-other key keys (n * l .key) (i * l .key) (l .key) 0 (inr (rw e (row-within n i (l .key) h)))
+
+-- 01 'A session': "records past the listed ones are neither read nor written later, but for an append": one at n leaves every record past it
+pub past-appended : (l : Layout) (n : ℕ) (key : List ℕ) (flag : ℕ) (rs : Records) (i : ℕ) → length key ≡ l .key → n < i
+    → (keyAt l (appended l n key flag rs .keys) i ≡ keyAt l (rs .keys) i)
+    × (getD (appended l n key flag rs .counts) i 0 ≡ getD (rs .counts) i 0)
+    × (getD (appended l n key flag rs .flags) i 0 ≡ getD (rs .flags) i 0)
+unfolding appended
+past-appended l n key flag rs i e h = (
+  key-past l (rs .keys) n key i e h,
+  getD-set-other (rs .counts) n i 0 0 (λ f. absurd (omega arith)),
+  getD-set-other (rs .flags) n i flag 0 (λ f. absurd (omega arith)),
+)
 
 -- ---- lengths
 pub key-inside : {l : Layout} {m : ℕ} {rs : Records} (n : ℕ) → Room l m rs → n < m → n * l .key + l .key ≤ length (rs .keys)
