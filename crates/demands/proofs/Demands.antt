@@ -10,8 +10,7 @@ use Rattle.meaning.specs.Meaning as encoder
 use Rattle.meaning.specs.View.{tableOf, switchOf}
 use Rattle.meaning.proofs.Meaning.{packets-mean}
 use Rattle.meaning.proofs.Session.{countedHere, memory-received, passes-own}
-use Rattle.theory.specs.Flow.{Key, among}
-use Rattle.theory.specs.Encode.{Taken, NeverMistaken}
+use Rattle.theory.specs.Encode.{Key, among, Taken, NeverMistaken}
 use Rattle.theory.specs.Session.{handedOf, countOf, keysWhere, opened}
 use Rattle.theory.specs.HandOver.{Switch, Call, settling}
 use Rattle.theory.specs.Invariant.{Counted, received}

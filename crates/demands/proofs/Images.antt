@@ -14,8 +14,7 @@ use Rattle.reading.specs.declared.Reading.the-variants.{Image}
 use Rattle.image.proofs.Back.{read-only}
 use Rattle.image.proofs.Blocks.{length-image}
 use Rattle.session.specs.Calls.{settleOf, settleNumber}
-use Rattle.theory.specs.Session.{unknownsOf, opened}
-use Rattle.theory.specs.Settle.{Stop, settled, listFull, damage, stopNumber}
+use Rattle.theory.specs.Session.{unknownsOf, opened, Stop, settled, listFull, damage, stopNumber}
 use Rattle.theory.specs.HandOver.{Switch, Call, settling, calls, settleAt}
 use Rattle.theory.proofs.Demands.{calls-never-13}
 use Rattle.theory.proofs.Alone.{alone-known}

@@ -19,7 +19,7 @@ use Rattle.settling.specs.Settle.{settleOf}
 use Rattle.handing.specs.declared.Handed.{Handed}
 use Rattle.handing.specs.declared.Handed.the-variants.{Taken, NotInFilter, Listed, EmptyCell, TooMany}
 use Rattle.handing.specs.Hand.{handOf, answerOf, afterAnswer, handNumber, takenBy}
-use Rattle.theory.specs.Flow.{Key}
+use Rattle.theory.specs.Encode.{Key}
 use Rattle.theory.specs.Session.{Session}
 use Rattle.theory.specs.HandOver.{Switch, handAnswer, handOver, settleAt}
 use Rattle.link.specs.View.{sessionOf}

@@ -40,7 +40,7 @@ use Rattle.settling.specs.Settle as settling
 use Rattle.handing.specs.Hand.{handOf, answerOf, afterAnswer}
 use Rattle.session.specs.Calls.{indexOf, handOver, handOverReturns, settleOf, settleAnswer, settleReturns, reportOn, reportReturns}
 use Rattle.session.proofs.Laws.{settle-passes}
-use Rattle.theory.specs.Settle as theory
+use Rattle.theory.specs.Session as theory
 use Rattle.theory.specs.HandOver.{settleAt}
 use Rattle.link.specs.Answers.{stopOf}
 use Rattle.demands.specs.Calls.{Live, viewed, switchAt, Passing}

@@ -5,9 +5,8 @@ use mathlib.Core.List.{List, [], _∷_, _++_}
 use mathlib.Core.Option.{some}
 use lib.Dec.{eqb}
 use Rattle.layout.specs.declared.Layout.{Layout}
-use Rattle.theory.specs.Flow.{Key}
-use Rattle.theory.specs.Session.{handedOf, countOf}
-use Rattle.theory.specs.Settle.{stopNumber}
+use Rattle.theory.specs.Encode.{Key}
+use Rattle.theory.specs.Session.{handedOf, countOf, stopNumber}
 use Rattle.theory.specs.HandOver.{Switch, Call, hand, settling, calls, settleAt}
 use Rattle.theory.specs.HandOver as theory
 use Rattle.theory.specs.Report.{report}

@@ -22,9 +22,8 @@ use Rattle.handing.specs.declared.Handed.the-variants as handed
 use Rattle.handing.specs.Hand as handing
 use Rattle.handing.specs.Hand.{takenBy}
 use Rattle.session.specs.Calls.{indexOf, handAnswer, handOver, handOverNumber, Settling, settlingTo, settleLeaves, settleOf, settleNumber, settleAnswer}
-use Rattle.theory.specs.Flow.{Key}
-use Rattle.theory.specs.Session.{listed, handedOf, hasEmptyCell}
-use Rattle.theory.specs.Settle.{stopNumber}
+use Rattle.theory.specs.Encode.{Key}
+use Rattle.theory.specs.Session.{listed, handedOf, hasEmptyCell, stopNumber}
 use Rattle.theory.specs.HandOver as theory
 use Rattle.theory.proofs.HandOver.{hand-edge}
 use Rattle.link.specs.Answers.{stopOf}

@@ -15,7 +15,7 @@ use Rattle.session.specs.declared.HandOver.{HandOver}
 use Rattle.session.specs.declared.HandOver.the-variants as over
 use Rattle.session.specs.declared.Settled.{Settled}
 use Rattle.session.specs.declared.Settled.the-variants as settled
-use Rattle.theory.specs.Flow.{Key}
+use Rattle.theory.specs.Encode.{Key}
 use Rattle.theory.specs.Session as theory
 use Rattle.theory.specs.HandOver.{Switch, Call, hand, settling}
 use Rattle.meaning.specs.View.{switchOf}

@@ -19,8 +19,7 @@ use Rattle.session.specs.declared.Reported.the-variants as reported
 use Rattle.summary.specs.declared.Report.{Report}
 use Rattle.summary.specs.declared.State.{State}
 use Rattle.summary.specs.declared.State.the-variants as state
-use Rattle.theory.specs.Flow.{Key}
-use Rattle.theory.specs.Encode.{Taken, flowsOf, packetsOf}
+use Rattle.theory.specs.Encode.{Key, Taken, flowsOf, packetsOf}
 use Rattle.theory.specs.HandOver.{Switch, settling}
 use Rattle.theory.specs.Report as theory
 use Rattle.theory.specs.Exchange.{PassesOwn}

@@ -6,7 +6,7 @@ use Rattle.packet.specs.declared.Key.{Key}
 use Rattle.packet.specs.Key.{keyBytes}
 use Rattle.room.specs.declared.Session.{Session}
 use Rattle.session.specs.Calls.{handOverNumber}
-use Rattle.theory.specs.Flow as flow
+use Rattle.theory.specs.Encode as flow
 use Rattle.theory.specs.HandOver as theory
 use Rattle.demands.specs.Calls.{Live, live, afterHand, afterSettle}
 use Rattle.calls.specs.Calls.{Lent, asNumbers, handRecords, settleRecords}

@@ -16,7 +16,7 @@ use Rattle.ending.specs.declared.Ending.{Ending}
 use Rattle.ending.specs.declared.Ending.the-variants as end
 use Rattle.exchange.proofs.Rooms.{joined-fits, joined-a, joined-b}
 use Rattle.exchange.proofs.Tests.{tested-passed}
-use Rattle.theory.specs.Settle.{stopNumber}
+use Rattle.theory.specs.Session.{stopNumber}
 use Rattle.theory.specs.Exchange as theory
 use Rattle.link.specs.Held.{Lent}
 use Rattle.demands.specs.Calls.{Live, live, withListed, viewed, switchAt, Passing}

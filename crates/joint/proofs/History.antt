@@ -8,8 +8,7 @@ use Rattle.layout.specs.Sizes.{Lays, ipv4Layout}
 use Rattle.layout.proofs.Ranges.{lays-ipv4}
 use Rattle.meaning.specs.Meaning as encoder
 use Rattle.meaning.proofs.Meaning.{packets-mean}
-use Rattle.theory.specs.Flow.{Key}
-use Rattle.theory.specs.Encode.{Taken}
+use Rattle.theory.specs.Encode.{Key, Taken}
 use Rattle.theory.specs.Session.{handedOf, handedOver}
 use Rattle.theory.specs.HandOver.{Switch, Call, hand, settling}
 use Rattle.theory.specs.Invariant.{Counted}

@@ -4,7 +4,7 @@ use mathlib.Core.Path.{_≡_, sym, ap, ap₂, subst, _∙_}
 use mathlib.Core.Bool.{true}
 use Rattle.layout.specs.declared.Layout.{Layout}
 use Rattle.exchange.specs.Exchange.{exchangeNumber}
-use Rattle.theory.specs.Flow.{Key}
+use Rattle.theory.specs.Encode.{Key}
 use Rattle.theory.specs.Session.{handedOver}
 use Rattle.theory.specs.HandOver.{Switch}
 use Rattle.theory.specs.Invariant.{Counted}

@@ -32,9 +32,9 @@ use Rattle.ending.specs.Over as over
 use Rattle.rounds.specs.Rounds as lists
 use Rattle.ending.specs.declared.Ending.the-variants as end
 use Rattle.ending.specs.declared.Ending.{Ending}
-use Rattle.theory.specs.Flow.{Key}
+use Rattle.theory.specs.Encode.{Key}
 use Rattle.theory.specs.Session.{Session, keysOf}
-use Rattle.theory.specs.Settle as theory
+use Rattle.theory.specs.Session as theory
 use Rattle.theory.specs.HandOver.{Switch, handAnswer, handOver, handEach, calls, call, settleAt}
 use Rattle.theory.specs.Exchange.{handAll, twelvesIn}
 use Rattle.theory.specs.Exchange as exchange

@@ -15,7 +15,7 @@ use Rattle.rounds.specs.Rounds.{pair}
 use Rattle.rounds.specs.Joined.{switchOf, seam, roomEnd}
 use Rattle.exchange.specs.Exchange.{exchangeOf, afterTest, exchangeReturns, answerOf, areasFit, roomA, roomB, sideOf}
 use Rattle.exchange.proofs.Tests.{tested-sizes, tested-room, tested-rest, tested-slot}
-use Rattle.theory.specs.Settle as theory
+use Rattle.theory.specs.Session as theory
 use Rattle.theory.specs.Exchange as theory-exchange
 use Rattle.demands.specs.Calls.{Live, switchAt, Passing}
 use Rattle.joint.specs.Exchanges.{exchangeOn, pairBefore}

@@ -2,7 +2,7 @@
 use mathlib.Core.Path.{_≡_}
 use lib.ListN.{length}
 use Rattle.layout.specs.declared.Layout.{Layout}
-use Rattle.theory.specs.Flow.{Key}
+use Rattle.theory.specs.Encode.{Key}
 use Rattle.theory.specs.HandOver.{hand, settling}
 use Rattle.demands.specs.Calls.{Live, callOn, Passing}
 use Rattle.joint.specs.Exchanges.{exchangedA, exchangedB}

@@ -21,9 +21,8 @@ use Rattle.counting.specs.declared.Stop as counting
 use Rattle.counting.specs.declared.Stop.the-variants as count
 use Rattle.settling.specs.Settle.{settled, afterCounts, thenCounts, settleOf}
 use Rattle.test8.specs.Test8.{isSession}
-use Rattle.theory.specs.Session.{Session, unknownsOf}
-use Rattle.theory.specs.Settle as theory
-use Rattle.theory.specs.Settle.{Step, quiet, full, damaged, next, peelPure, settle}
+use Rattle.theory.specs.Session.{Session, unknownsOf, Step, quiet, full, damaged, next, peelPure, settle}
+use Rattle.theory.specs.Session as theory
 use Rattle.theory.specs.Notes.{Notes, Noted, noted, mapStep, peelNoted}
 use Rattle.theory.specs.Proper.{Proper}
 use Rattle.theory.proofs.Repeat.{stepOf, quiet-only}

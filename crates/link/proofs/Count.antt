@@ -25,10 +25,9 @@ use Rattle.table.specs.Table.{Tab, Fit}
 use Rattle.counting.specs.Book.{Book, book, exceeds, readyAt, withReady, readyUpto, toldOut}
 use Rattle.counting.specs.Count.{Counted, counted, countDamaged, countAt, countOf}
 use Rattle.counting.specs.declared.Step.the-variants.{Quiet, Damaged, Next}
-use Rattle.theory.specs.Flow.{Key}
-use Rattle.theory.specs.Encode.{Placement}
+use Rattle.theory.specs.Encode.{Key, Placement}
 use Rattle.theory.specs.Session.{newRecord}
-use Rattle.theory.specs.Settle as theory
+use Rattle.theory.specs.Session as theory
 use Rattle.theory.specs.Notes.{Noted, readyBy, countNoted}
 use Rattle.link.specs.View.{below, cellsOf, recordAt, numbersOf, notedOf}
 use Rattle.link.specs.Held.{Lent, Held, Ready, Named, withBook}

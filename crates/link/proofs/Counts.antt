@@ -17,9 +17,8 @@ use Rattle.counting.specs.Count.{Counted, Ended, afterCount, countOf, countsUpt
 use Rattle.counting.specs.declared.Stop as counting
 use Rattle.counting.specs.declared.Stop.the-variants as stop
 use Rattle.theory.specs.Encode.{Placement}
-use Rattle.theory.specs.Session.{Session, ready}
-use Rattle.theory.specs.Settle.{Step, quiet, full, damaged, next, settled, damage, afterStep, repeat}
-use Rattle.theory.specs.Settle as theory
+use Rattle.theory.specs.Session.{Session, ready, Step, quiet, full, damaged, next, settled, damage, afterStep, repeat}
+use Rattle.theory.specs.Session as theory
 use Rattle.theory.specs.Notes.{Notes, Noted, positionsIn, scan, noted, mapStep, mapResult, readyBy, countNoted}
 use Rattle.theory.proofs.Single.{ready-one}
 use Rattle.theory.proofs.Positions.{positions-one}

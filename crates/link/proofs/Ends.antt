@@ -6,10 +6,8 @@ use Prim.Native.Nat.{ℕ, _*_}
 use lib.Dec.{leb}
 use lib.ListN.{length, getD}
 use Rattle.laws.specs.Upto.{anyUpto, lowest}
-use Rattle.theory.specs.Flow.{Key}
-use Rattle.theory.specs.Encode.{Placement}
-use Rattle.theory.specs.Session.{newRecord, takeOut, setCount}
-use Rattle.theory.specs.Settle.{quiet, full, damaged, next, peelDamaged, peelAt, peel, countDamaged}
+use Rattle.theory.specs.Encode.{Key, Placement}
+use Rattle.theory.specs.Session.{newRecord, takeOut, setCount, quiet, full, damaged, next, peelDamaged, peelAt, peel, countDamaged}
 use Rattle.theory.specs.Notes.{Noted, noteTaken, noteTold, peelNoted, readyBy, tellAt, countNoted}
 
 module _ (n : ℕ) (has : Placement) (t : Noted) where

@@ -12,7 +12,7 @@ use Rattle.laws.specs.Upto.{eachUpto, listUpto, numberUpto}
 use Rattle.laws.proofs.Bools.{split}
 use Rattle.laws.proofs.Upto.{length-list}
 use Rattle.laws.proofs.Xor.{xor-assoc}
-use Rattle.theory.specs.Flow.{Key, sumOver, count}
+use Rattle.theory.specs.Encode.{Key, sumOver, count}
 use Rattle.theory.specs.Session.{Record, keysWhere}
 use Rattle.theory.specs.Notes.{positionsFrom}
 use Rattle.theory.proofs.Records.{where-append}

@@ -15,7 +15,7 @@ use Rattle.layout.specs.Sizes.{tableCells}
 use Rattle.hash.specs.Places.{hasCell}
 use Rattle.list.specs.Records.{Records, isHanded, isListed, appended}
 use Rattle.table.specs.Table.{Tab, hasEmpty, takenOut}
-use Rattle.theory.specs.Flow.{Key}
+use Rattle.theory.specs.Encode.{Key}
 use Rattle.theory.specs.Session.{Session}
 use Rattle.theory.specs.HandOver.{Switch, handAnswer, handOver}
 use Rattle.theory.specs.Notes.{noted, handNoted}

@@ -16,7 +16,7 @@ use Rattle.laws.proofs.Upto.{any-same, length-list, list-at, list-same}
 use Rattle.layout.specs.declared.Layout.{Layout}
 use Rattle.list.specs.Records.{Records, Room, keyAt, isKnown, isHanded, sameBytes, isListed, appended, withCount}
 use Rattle.list.proofs.Laws.{same-is, same-self, length-key, key-appended, key-kept, known-told, handed-told, flags-other}
-use Rattle.theory.specs.Flow.{Key, sameKey, among}
+use Rattle.theory.specs.Encode.{Key, sameKey, among}
 use Rattle.theory.specs.Session.{Record, keysOf, newRecord, toldRecord}
 use Rattle.theory.specs.Notes.{tellAt}
 use Rattle.theory.proofs.Flow.{same-eq, same-refl, among-append}

@@ -21,11 +21,9 @@ use Rattle.marks.specs.Marks.{marked, firstMark}
 use Rattle.table.specs.Table.{Tab, Fit, hasEmpty, takenOut}
 use Rattle.peeling.specs.Peel.{Peeled, peeled, Ended, peelDamaged, peelTaken, peelAt, peelOf, afterPeel, peelsUpto, listedAt}
 use Rattle.peeling.specs.declared.Step.the-variants.{Quiet, Full, Damaged, Next}
-use Rattle.theory.specs.Flow.{Key}
-use Rattle.theory.specs.Encode.{Placement}
-use Rattle.theory.specs.Session.{hasEmptyCell}
-use Rattle.theory.specs.Settle as theory
-use Rattle.theory.specs.Settle.{Step, repeat, afterStep}
+use Rattle.theory.specs.Encode.{Key, Placement}
+use Rattle.theory.specs.Session.{hasEmptyCell, Step, repeat, afterStep}
+use Rattle.theory.specs.Session as theory
 use Rattle.theory.specs.Notes.{Noted, peelNoted}
 use Rattle.theory.specs.Collector.{PeelLeaves}
 use Rattle.theory.proofs.Hollow.{peel-meets}

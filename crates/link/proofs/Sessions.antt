@@ -14,8 +14,8 @@ use Rattle.peeling.specs.Peel.{listedAt}
 use Rattle.peeling.specs.declared.Stop.the-variants.{Full}
 use Rattle.settling.specs.Settle.{settleOf}
 use Rattle.test8.specs.Test8.{isSession}
-use Rattle.theory.specs.Flow.{Key}
-use Rattle.theory.specs.Settle.{settle}
+use Rattle.theory.specs.Encode.{Key}
+use Rattle.theory.specs.Session.{settle}
 use Rattle.theory.specs.HandOver.{handAnswer}
 use Rattle.theory.proofs.Settle.{never-13}
 use Rattle.link.specs.View.{sessionOf}

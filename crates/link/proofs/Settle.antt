@@ -26,11 +26,9 @@ use Rattle.counting.specs.Count.{Ended, countsOf}
 use Rattle.counting.specs.declared.Stop as counting
 use Rattle.counting.specs.declared.Stop.the-variants as count
 use Rattle.settling.specs.Settle.{stopAfter, afterCounts, thenCounts, settleOf}
-use Rattle.theory.specs.Flow.{Distinct}
-use Rattle.theory.specs.Encode.{Placement}
-use Rattle.theory.specs.Session.{Session, keysOf, unknownsOf, unknownsIn, openCells}
-use Rattle.theory.specs.Settle.{Result, repeat, peelPure, countStep, peels, settle}
-use Rattle.theory.specs.Settle as theory
+use Rattle.theory.specs.Encode.{Distinct, Placement}
+use Rattle.theory.specs.Session.{Session, keysOf, unknownsOf, unknownsIn, openCells, Result, repeat, peelPure, countStep, peels, settle}
+use Rattle.theory.specs.Session as theory
 use Rattle.theory.specs.Notes.{Notes, Noted, scan, noted, mapResult, peelNoted, settleNoted}
 use Rattle.theory.specs.Proper.{Proper}
 use Rattle.theory.proofs.Records.{list-parts}

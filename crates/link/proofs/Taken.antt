@@ -21,8 +21,7 @@ use Rattle.list.specs.Records.{Records, appended}
 use Rattle.list.proofs.Laws.{room-appended}
 use Rattle.table.specs.Table.{Tab, Fit, takenOut}
 use Rattle.table.proofs.Table.{fit-out}
-use Rattle.theory.specs.Flow.{Key}
-use Rattle.theory.specs.Encode.{Placement, emptyTable}
+use Rattle.theory.specs.Encode.{Key, Placement, emptyTable}
 use Rattle.theory.specs.Session.{Session, pure, takeOut}
 use Rattle.theory.specs.Notes.{Notes, Noted, noteTaken}
 use Rattle.link.specs.View.{below, cell, cellsOf, sessionOf, marksOf, numbersOf, notesOf, notedOf, flagOf, Spot, spotAt}

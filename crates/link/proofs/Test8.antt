@@ -24,8 +24,7 @@ use Rattle.marks.specs.Marks.{wordsFor, marked}
 use Rattle.table.specs.Table.{Tab, pureAt}
 use Rattle.test8.specs.Test8.{overListed, keysRepeat, zeroCount, handedIn, peeledIn, openIn, numbersIn, agrees, marksRight, restClear}
 use Rattle.test8.specs.Test8.{unknownIn, unknownsGiven, positionsGiven, notesRight, isSession}
-use Rattle.theory.specs.Flow.{Key, sameKey, among, Distinct}
-use Rattle.theory.specs.Encode.{Placement, emptyTable}
+use Rattle.theory.specs.Encode.{Key, sameKey, among, Distinct, Placement, emptyTable}
 use Rattle.theory.specs.Session.{Record, Session, keysOf, handedOf, peeledOf, pure, unknownsIn, openCells}
 use Rattle.theory.specs.Notes.{Notes, positionsIn, scan}
 use Rattle.theory.specs.Proper.{CountsPositive, Proper}

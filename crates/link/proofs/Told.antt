@@ -24,8 +24,7 @@ use Rattle.marks.proofs.Laws.{length-put, marked-same, marked-other, words-put}
 use Rattle.table.specs.Table as table-cells
 use Rattle.table.specs.Table.{Tab}
 use Rattle.counting.specs.Book.{Book, readyAt, toldAt, toldOut}
-use Rattle.theory.specs.Flow.{Key}
-use Rattle.theory.specs.Encode.{Placement, emptyTable}
+use Rattle.theory.specs.Encode.{Key, Placement, emptyTable}
 use Rattle.theory.specs.Session.{setCount}
 use Rattle.theory.specs.Notes.{Noted, noteTold, tellAt}
 use Rattle.link.specs.View.{below, cell, cellsOf, numbersOf, notesOf, notedOf}

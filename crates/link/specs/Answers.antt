@@ -18,8 +18,7 @@ use Rattle.counting.specs.declared.Step.the-variants as count
 use Rattle.counting.specs.declared.Stop.{Stop as CountStop}
 use Rattle.counting.specs.declared.Stop.the-variants as told
 use Rattle.settling.specs.Settle.{Settled}
-use Rattle.theory.specs.Settle.{Step, quiet, full, damaged, next, Stop, settled, listFull, damage, Result}
-use Rattle.theory.specs.Session.{Session}
+use Rattle.theory.specs.Session.{Step, quiet, full, damaged, next, Stop, settled, listFull, damage, Result, Session}
 use Rattle.theory.specs.Notes.{Noted, scan}
 use Rattle.link.specs.View.{cellsOf, recordsOf, notesOf, notedOf}
 

@@ -12,7 +12,7 @@ use Rattle.marks.specs.Marks.{Words, marked}
 use Rattle.table.specs.Table.{Tab, tab, Fit}
 use Rattle.counting.specs.Book.{Book, readyAt}
 use Rattle.hash.specs.Places.{hasCell}
-use Rattle.theory.specs.Flow.{Distinct}
+use Rattle.theory.specs.Encode.{Distinct}
 use Rattle.theory.specs.Session.{keysOf}
 use Rattle.theory.specs.Notes.{scan}
 use Rattle.link.specs.View.{recordsOf, sessionOf, notesOf}

@@ -24,8 +24,7 @@ use Rattle.filter.proofs.Held.{length-flow, flow-bits, taken-old, old-stays}
 use Rattle.cell.specs.Cell.{flowXorAt, withKey, addFlow, addPacket, takeAt}
 use Rattle.cell.proofs.Steps.{length-take, take-zero}
 use Rattle.encoder.specs.Encoder.{takeIn, offerKey}
-use Rattle.theory.specs.Flow.{Key, sameKey, among}
-use Rattle.theory.specs.Encode.{takePacket, addFlow as joined}
+use Rattle.theory.specs.Encode.{Key, sameKey, among, takePacket, addFlow as joined}
 use Rattle.theory.proofs.Flow.{same-eq}
 use Rattle.theory.proofs.Packets.{among-add}
 use Rattle.meaning.specs.View.{tableOf, placementOf}

@@ -15,8 +15,7 @@ use Rattle.layout.specs.Sizes.{Lays, Ranged, ipv4Layout, tableCells, cellBytes}
 use Rattle.layout.proofs.Ranges.{lays-ipv4}
 use Rattle.filter.specs.Filter.{isSet, isNew, hasBit}
 use Rattle.encoder.specs.Encoder.{packetOf}
-use Rattle.theory.specs.Flow.{Key}
-use Rattle.theory.specs.Encode.{Taken, emptyTable, takePackets, NeverRenewed, Sized}
+use Rattle.theory.specs.Encode.{Key, Taken, emptyTable, takePackets, NeverRenewed, Sized}
 use Rattle.theory.proofs.Flow.{among-none}
 use Rattle.theory.proofs.Packets.{flows-set}
 use Rattle.theory.proofs.Encode.{taken-encodes, clean-encodes}

@@ -15,9 +15,7 @@ use Rattle.layout.specs.Sizes.{Lays, tableCells, cellBytes, filterBytes}
 use Rattle.fields.specs.Field.{field}
 use Rattle.filter.specs.Filter.{isSet, hasBit}
 use Rattle.cell.specs.Cell.{flowXorAt, flowCountAt, packetCountAt, flowCountPlace, packetCountPlace}
-use Rattle.theory.specs.Flow.{Key}
-use Rattle.theory.specs.Encode.{Taken, emptyTable, takePackets, addFlow, flowsAfter}
-use Rattle.theory.specs.Encode.{EachTaken, OldIsOld, HasLength}
+use Rattle.theory.specs.Encode.{Key, Taken, emptyTable, takePackets, addFlow, flowsAfter, EachTaken, OldIsOld, HasLength}
 use Rattle.theory.proofs.Encode.{cell-path}
 use Rattle.meaning.specs.View.{cellAt, tableOf, placementOf}
 use Rattle.meaning.specs.Meaning.{Memory, Lent, cleared, Call, leaves, isTaken, offerAll, takenBy, takenOf, newFlowBit, Sets, TakesKeys}

@@ -14,8 +14,7 @@ use Rattle.filter.specs.Filter.{isSet, isNew, hasBit}
 use Rattle.packet.specs.Packet.{keyIn}
 use Rattle.packet.specs.Key.{keyBytes}
 use Rattle.encoder.specs.Encoder.{Taking, takeNumber, offerKey, packetOf}
-use Rattle.theory.specs.Flow.{Key, among}
-use Rattle.theory.specs.Encode.{Taken, flowsOf, newFlowsOf, packetsOf, NeverMistaken, NeverRenewed, Sized, encodeCell, encode, FlowSet}
+use Rattle.theory.specs.Encode.{Key, among, Taken, flowsOf, newFlowsOf, packetsOf, NeverMistaken, NeverRenewed, Sized, encodeCell, encode, FlowSet}
 use Rattle.meaning.specs.View.{tableOf, placementOf}
 
 -- 01 'Taking packets': "Working memory is the payload bytes of filter and cells"

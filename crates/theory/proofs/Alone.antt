@@ -8,10 +8,8 @@ use native.Mathlib.Omega.{arith}
 use lib.Dec.{eqb, ltb}
 use Rattle.laws.proofs.Bools.{split, clash, or-e, or-fr}
 use Rattle.laws.proofs.Upto.{any-none}
-use Rattle.theory.specs.Flow.{Key, sameKey, among, sumOver, count}
-use Rattle.theory.specs.Encode.{Table, Placement}
-use Rattle.theory.specs.Session.{Record, Session, opened, keysOf, keysWhere, unknownsOf, listed, pure, ready, hasEmptyCell, openCells, takeOut}
-use Rattle.theory.specs.Settle.{next, settled, peelDamaged, peelPure, countStep, settle}
+use Rattle.theory.specs.Encode.{Key, sameKey, among, sumOver, count, Table, Placement}
+use Rattle.theory.specs.Session.{Record, Session, opened, keysOf, keysWhere, unknownsOf, listed, pure, ready, hasEmptyCell, openCells, takeOut, next, settled, peelDamaged, peelPure, countStep, settle}
 use Rattle.theory.specs.Report.{short, report}
 use Rattle.theory.proofs.Flow.{same-eq, among-append, among-none}
 use Rattle.theory.proofs.Sums.{sum-none}

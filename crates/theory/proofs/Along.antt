@@ -11,9 +11,8 @@ use native.Mathlib.Omega.{arith}
 use lib.ListN.{length}
 use lib.Dec.{eqb, leb}
 use Rattle.laws.proofs.Bools.{split, clash}
-use Rattle.theory.specs.Flow.{Key, among}
-use Rattle.theory.specs.Session.{Session, keysOf, handedOf, listed, handedOver}
-use Rattle.theory.specs.Settle.{Stop}
+use Rattle.theory.specs.Encode.{Key, among}
+use Rattle.theory.specs.Session.{Session, keysOf, handedOf, listed, handedOver, Stop}
 use Rattle.theory.specs.HandOver.{Switch, handAnswer, handOver, call, calls, handEach, settleAt}
 use Rattle.theory.specs.Invariant.{Counted, Holds}
 use Rattle.theory.specs.Demands.{HandedCounted}

@@ -8,10 +8,8 @@ use native.Mathlib.Omega.{arith}
 use lib.ListN.{length}
 use lib.Dec.{eqb}
 use Rattle.laws.proofs.Bools.{split, or-f}
-use Rattle.theory.specs.Flow.{Key, sameKey, among, Distinct}
-use Rattle.theory.specs.Encode.{Placement}
-use Rattle.theory.specs.Session.{Session, handedOf, listed, handedOver, takeOut}
-use Rattle.theory.specs.Settle.{settled}
+use Rattle.theory.specs.Encode.{Key, sameKey, among, Distinct, Placement}
+use Rattle.theory.specs.Session.{Session, handedOf, listed, handedOver, takeOut, settled}
 use Rattle.theory.specs.HandOver.{Switch, handAnswer, handOver, Call, hand, settling, call, calls, settleAt}
 use Rattle.theory.specs.Runs.{handed, Going, AtRest}
 use Rattle.theory.specs.Invariant.{Counted, Holds}

@@ -2,10 +2,8 @@
 use mathlib.Core.Path.{_≡_, refl}
 use Rattle.laws.specs.Xor.{xorBytes}
 use Rattle.laws.specs.Upto.{anyUpto, lowest, numberUpto}
-use Rattle.theory.specs.Flow.{sameKey, among, sumOver}
-use Rattle.theory.specs.Encode.{emptyTable, encodeCell, encode}
-use Rattle.theory.specs.Session.{keysOf, keysWhere, pure, ready, first, hasEmptyCell, openCells, takeOut, withCount, setCount}
-use Rattle.theory.specs.Settle.{afterStep, repeat, peelDamaged, peelAt, peel, countDamaged, countAt, countStep, thenCounts, settle}
+use Rattle.theory.specs.Encode.{sameKey, among, sumOver, emptyTable, encodeCell, encode}
+use Rattle.theory.specs.Session.{keysOf, keysWhere, pure, ready, first, hasEmptyCell, openCells, takeOut, withCount, setCount, afterStep, repeat, peelDamaged, peelAt, peel, countDamaged, countAt, countStep, thenCounts, settle}
 use Rattle.theory.specs.HandOver.{handAnswer, handOver, call, calls}
 use Rattle.theory.specs.Report.{report}
 use Rattle.theory.specs.Cases.{placedWith, packetsIn, oneCell, linesOf, standing, lastOutcome, outcome, tenCases, outcomes, results}

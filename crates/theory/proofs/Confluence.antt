@@ -5,7 +5,7 @@ use mathlib.Core.Bool.{true}
 use lib.ListN.{replicate}
 use Rattle.laws.specs.Xor.{xorBytes}
 use Rattle.laws.proofs.Bools.{split, clash, iff}
-use Rattle.theory.specs.Flow.{Key, sumOver, total, count}
+use Rattle.theory.specs.Encode.{Key, sumOver, total, count}
 use Rattle.theory.specs.Session.{Session, listed, handedOver, counted}
 use Rattle.theory.specs.HandOver.{Switch}
 use Rattle.theory.specs.Invariant.{Counted, Holds}

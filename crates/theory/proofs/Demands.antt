@@ -6,10 +6,8 @@ use mathlib.Core.Option.{some, none}
 use Prim.Native.Nat.{ℕ}
 use native.Mathlib.Omega.{arith}
 use lib.Dec.{ltb}
-use Rattle.theory.specs.Flow.{Key, among}
-use Rattle.theory.specs.Encode.{Table}
-use Rattle.theory.specs.Session.{Session, opened, keysOf, keysWhere, handedOf, listed, handedOver, counted, countOf, openCells}
-use Rattle.theory.specs.Settle.{settled, listFull}
+use Rattle.theory.specs.Encode.{Key, among, Table}
+use Rattle.theory.specs.Session.{Session, opened, keysOf, keysWhere, handedOf, listed, handedOver, counted, countOf, openCells, settled, listFull}
 use Rattle.theory.specs.HandOver.{Switch, Call, calls, settleAt}
 use Rattle.theory.specs.Fits.{Fits}
 use Rattle.theory.specs.Runs.{start, Stands, AtRest}

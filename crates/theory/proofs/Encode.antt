@@ -10,9 +10,7 @@ use lib.ListN.{replicate}
 use Rattle.laws.specs.Xor.{xorBytes}
 use Rattle.laws.proofs.Bools.{split, clash}
 use Rattle.laws.proofs.Xor.{xorBytes-comm, xorBytes-assoc}
-use Rattle.theory.specs.Flow.{Key, sameKey, among, Distinct, sumOver, total}
-use Rattle.theory.specs.Encode.{Cell, Table, Placement, emptyTable, takeInCell, takePacket, Taken, takePackets, addFlow, flowsAfter, flowsOf}
-use Rattle.theory.specs.Encode.{newFlowsOf, packetsOf, NewIsNew, OldIsOld, NeverMistaken, NeverRenewed, encodeCell, encode}
+use Rattle.theory.specs.Encode.{Key, sameKey, among, Distinct, sumOver, total, Cell, Table, Placement, emptyTable, takeInCell, takePacket, Taken, takePackets, addFlow, flowsAfter, flowsOf, newFlowsOf, packetsOf, NewIsNew, OldIsOld, NeverMistaken, NeverRenewed, encodeCell, encode}
 use Rattle.theory.proofs.Flow.{same-refl, same-eq, among-other, without, without-self}
 use Rattle.theory.proofs.Sums.{sum-append, sum-values, total-split}
 use Rattle.theory.proofs.Packets.{takePackets-append, flowsAfter-append, newFlowsOf-append, packetsOf-append, each-before, each-last}

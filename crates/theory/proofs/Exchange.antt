@@ -8,9 +8,8 @@ use Prim.Native.Nat.{ℕ, zero, suc, _+_, _*_, _<_}
 use native.Mathlib.Omega.{arith}
 use Rattle.laws.specs.Upto.{anyUpto}
 use Rattle.laws.proofs.Bools.{split}
-use Rattle.theory.specs.Flow.{Key, among}
-use Rattle.theory.specs.Session.{listed, handedOver}
-use Rattle.theory.specs.Settle.{Stop, settled, listFull, damage}
+use Rattle.theory.specs.Encode.{Key, among}
+use Rattle.theory.specs.Session.{listed, handedOver, Stop, settled, listFull, damage}
 use Rattle.theory.specs.HandOver.{Switch, settleAt}
 use Rattle.theory.specs.Fits.{Fits}
 use Rattle.theory.specs.Runs.{PeelClosed, Stands, AtRest}

@@ -9,7 +9,7 @@ use lib.ListN.{length}
 use lib.Dec.{ltb}
 use Rattle.laws.proofs.Bools.{iff}
 use Rattle.laws.proofs.Upto.{any-none}
-use Rattle.theory.specs.Flow.{Key, among}
+use Rattle.theory.specs.Encode.{Key, among}
 use Rattle.theory.specs.Session.{Session, keysOf, listed, handedOver}
 use Rattle.theory.specs.HandOver.{Switch, handEach, settleAt}
 use Rattle.theory.specs.Runs.{start, AtRest}

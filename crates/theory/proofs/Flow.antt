@@ -5,7 +5,7 @@ use mathlib.Core.Bool.{Bool, true, false, not, _&&_, _||_}
 use mathlib.Core.List.{List, [], _∷_, _++_}
 use lib.Dec.{eqb, eqb→eq, eqb-refl}
 use Rattle.laws.proofs.Bools.{split, clash, T→≡, ≡→T, and-l, and-r, and-i, and-f, and-t, or-e, or-r, or-fl, or-fr}
-use Rattle.theory.specs.Flow.{Key, sameKey, among, Distinct}
+use Rattle.theory.specs.Encode.{Key, sameKey, among, Distinct}
 
 pub same-refl : (a : Key) → sameKey a a ≡ true
 unfolding sameKey

@@ -8,10 +8,8 @@ use native.Mathlib.Omega.{arith}
 use lib.ListN.{length, length-append}
 use lib.Dec.{eqb}
 use Rattle.laws.proofs.Bools.{split}
-use Rattle.theory.specs.Flow.{Key, among}
-use Rattle.theory.specs.Encode.{Placement}
-use Rattle.theory.specs.Session.{Session, keysOf, pure, takeOut, setCount}
-use Rattle.theory.specs.Settle.{next, peelPure, countStep, settle}
+use Rattle.theory.specs.Encode.{Key, among, Placement}
+use Rattle.theory.specs.Session.{Session, keysOf, pure, takeOut, setCount, next, peelPure, countStep, settle}
 use Rattle.theory.specs.HandOver.{Switch, handAnswer, handOver, Call, call, calls, handEach}
 use Rattle.theory.specs.Exchange.{handAll, twelvesIn}
 use Rattle.theory.proofs.Flow.{among-cases, among-none}

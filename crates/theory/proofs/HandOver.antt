@@ -8,9 +8,8 @@ use native.Mathlib.Omega.{arith}
 use lib.ListN.{length}
 use lib.Dec.{eqb, leb}
 use Rattle.laws.proofs.Bools.{split, clash, or-l, or-r}
-use Rattle.theory.specs.Flow.{Key, sameKey}
-use Rattle.theory.specs.Session.{Session, pure, handedOf, listed, handedOver, hasEmptyCell, takeOut}
-use Rattle.theory.specs.Settle.{next, peelPure, countStep}
+use Rattle.theory.specs.Encode.{Key, sameKey}
+use Rattle.theory.specs.Session.{Session, pure, handedOf, listed, handedOver, hasEmptyCell, takeOut, next, peelPure, countStep}
 use Rattle.theory.specs.HandOver.{Switch, handAnswer, handOver, settleAt, Call, hand, settling, call, calls, accepted}
 use Rattle.theory.specs.Fits.{Fits}
 use Rattle.theory.proofs.Flow.{same-refl}

@@ -12,14 +12,11 @@ use lib.ListN.{length}
 use Rattle.laws.specs.Xor.{xorBytes}
 use Rattle.laws.specs.Upto.{anyUpto, lowest}
 use Rattle.laws.proofs.Bools.{split, clash, or-e}
-use Rattle.theory.specs.Flow.{Key, sameKey, among, Distinct, sumOver}
-use Rattle.theory.specs.Encode.{Table, emptyTable, addFlow, flowsAfter, packetsOf, EachTaken, NewIsNew, encodeCell, encode}
-use Rattle.theory.specs.Session.{Session, opened, keysOf, keysWhere, counted, countOf, pure, ready, first, hasEmptyCell}
-use Rattle.theory.specs.Session.{takeOut, withCount, setCount}
-use Rattle.theory.specs.Settle.{Step, quiet, full, damaged, next, afterStep, repeat, peelDamaged, peelAt, peel, countDamaged, countAt, countStep, thenCounts, settle}
+use Rattle.theory.specs.Encode.{Key, sameKey, among, Distinct, sumOver, Table, emptyTable, addFlow, flowsAfter, packetsOf, EachTaken, NewIsNew, encodeCell, encode, outside}
+use Rattle.theory.specs.Session.{Session, opened, keysOf, keysWhere, counted, countOf, pure, ready, first, hasEmptyCell, takeOut, withCount, setCount, Step, quiet, full, damaged, next, afterStep, repeat, peelDamaged, peelAt, peel, countDamaged, countAt, countStep, thenCounts, settle}
 use Rattle.theory.specs.HandOver.{hand, handAnswer, handOver, Call, call, calls, handEach}
 use Rattle.theory.specs.Report.{Report, report}
-use Rattle.theory.specs.Invariant.{Placed, Counted, received, outside}
+use Rattle.theory.specs.Invariant.{Placed, Counted, received}
 use Rattle.theory.specs.Demands.{Premises, keep, takeAll}
 use Rattle.theory.specs.Exchange.{Pair, exchange, twelvesIn, handBoth, settleBoth, goOn, rounds, thenRounds}
 use Rattle.theory.specs.Notes.{Noted, noted, noteTaken, mapStep, peelNoted, scan}

@@ -8,11 +8,10 @@ use lib.ListN.{length, replicate, length-replicate}
 use Rattle.laws.specs.Xor.{xorBytes}
 use Rattle.laws.proofs.Bools.{split, and-t, or-e}
 use Rattle.laws.proofs.Xor.{xorBytes-comm, xorBytes-assoc, xorBytes-length, xorBytes-cancel}
-use Rattle.theory.specs.Flow.{Key, sameKey, among, Distinct, sumOver, total, count}
-use Rattle.theory.specs.Encode.{encodeCell, encode}
+use Rattle.theory.specs.Encode.{Key, sameKey, among, Distinct, sumOver, total, count, encodeCell, encode, outside}
 use Rattle.theory.specs.Session.{Session, keysOf, keysWhere, listed, unknown, counted, takeOut, setCount}
 use Rattle.theory.specs.HandOver.{Switch}
-use Rattle.theory.specs.Invariant.{Counted, received, Holds, outside, CountsRight}
+use Rattle.theory.specs.Invariant.{Counted, received, Holds, CountsRight}
 use Rattle.theory.proofs.Flow.{same-eq, among-none, without}
 use Rattle.theory.proofs.Sums.{sum-split, sum-keeps, total-split}
 use Rattle.theory.proofs.Records.{take-distinct, count-distinct, where-listed, listed-take, counted-take, listed-count, counted-count}

@@ -11,12 +11,8 @@ use lib.Dec.{eqb}
 use lib.ListN.{length, getD}
 use Rattle.laws.specs.Upto.{anyUpto, lowest}
 use Rattle.laws.proofs.Bools.{split, or-fl}
-use Rattle.theory.specs.Flow.{Key, Distinct}
-use Rattle.theory.specs.Encode.{Placement}
-use Rattle.theory.specs.Session.{Session, keysOf, unknownsOf, listed, pure, unknownsIn, ready, theUnknown, hasEmptyCell}
-use Rattle.theory.specs.Session.{newRecord, takeOut, setCount}
-use Rattle.theory.specs.Settle.{Step, damaged, next, Stop, settled, listFull, damage, peelDamaged, peelPure}
-use Rattle.theory.specs.Settle.{countDamaged, countAt, countStep, peels, thenCounts, settle}
+use Rattle.theory.specs.Encode.{Key, Distinct, Placement}
+use Rattle.theory.specs.Session.{Session, keysOf, unknownsOf, listed, pure, unknownsIn, ready, theUnknown, hasEmptyCell, newRecord, takeOut, setCount, Step, damaged, next, Stop, settled, listFull, damage, peelDamaged, peelPure, countDamaged, countAt, countStep, peels, thenCounts, settle}
 use Rattle.theory.specs.HandOver.{Switch, handAnswer, handOver}
 use Rattle.theory.specs.Notes.{Notes, Noted, positionsIn, scan, noted, noteTaken, noteTold, mapStep, mapResult, peelNoted, readyBy}
 use Rattle.theory.specs.Notes.{tellAt, countNoted}

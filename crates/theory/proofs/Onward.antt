@@ -9,7 +9,7 @@ use native.Mathlib.Nat.{le-refl}
 use native.Mathlib.Omega.{arith}
 use lib.Dec.{eqb}
 use Rattle.laws.proofs.Bools.{split, clash, and-l, and-r, or-e, or-r}
-use Rattle.theory.specs.Flow.{Key, sameKey, among}
+use Rattle.theory.specs.Encode.{Key, sameKey, among}
 use Rattle.theory.specs.Session.{Session, keysOf, handedOver}
 use Rattle.theory.specs.HandOver.{Switch, handAnswer, handOver, call, calls, handEach, settleAt}
 use Rattle.theory.specs.Exchange.{handAll}

@@ -5,10 +5,7 @@ use mathlib.Core.Bool.{Bool, true, false, not, _&&_, _||_}
 use mathlib.Core.List.{List}
 use Prim.Native.Nat.{ℕ}
 use Rattle.laws.proofs.Bools.{split, clash, and-l, and-r, not-t}
-use Rattle.theory.specs.Flow.{Key, sameKey}
-use Rattle.theory.specs.Encode.{Placement}
-use Rattle.theory.specs.Invariant.{outside}
-use Rattle.theory.specs.Runs.{Only}
+use Rattle.theory.specs.Encode.{Key, sameKey, Placement, outside, Only}
 use Rattle.theory.proofs.Flow.{without, without-idle}
 
 module _ (has : Placement) where

@@ -7,9 +7,7 @@ use Prim.Native.Nat.{ℕ, _+_, _≤_}
 use native.Mathlib.Omega.{arith}
 use lib.ListN.{length}
 use Rattle.laws.proofs.Bools.{split, or-e, or-f, or-fl, or-fr}
-use Rattle.theory.specs.Flow.{Key, sameKey, among, Distinct}
-use Rattle.theory.specs.Encode.{Table, Placement, takePacket, Taken, takePackets, addFlow, flowsAfter, flowsOf}
-use Rattle.theory.specs.Encode.{newFlowsOf, packetsOf, EachTaken, HasLength, Sized, FlowSet}
+use Rattle.theory.specs.Encode.{Key, sameKey, among, Distinct, Table, Placement, takePacket, Taken, takePackets, addFlow, flowsAfter, flowsOf, newFlowsOf, packetsOf, EachTaken, HasLength, Sized, FlowSet}
 use Rattle.theory.proofs.Flow.{same-eq, among-none, among-append, distinct-append}
 use Rattle.laws.proofs.Lists.{append-ind}
 

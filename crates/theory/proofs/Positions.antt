@@ -9,7 +9,7 @@ use lib.Bits.{bitXor, xor-zero-r}
 use lib.ListN.{length, getD}
 use Rattle.laws.proofs.Bools.{split, or-fl, or-fr}
 use Rattle.laws.proofs.Xor.{xor-assoc, xor-swap, xor-undo}
-use Rattle.theory.specs.Flow.{Key, sameKey, among, Distinct, sumOver, count}
+use Rattle.theory.specs.Encode.{Key, sameKey, among, Distinct, sumOver, count}
 use Rattle.theory.specs.Session.{Record, keysOf, keysWhere, unknownsOf, first, newRecord, withCount}
 use Rattle.theory.specs.Notes.{positionsFrom, tellAt}
 use Rattle.theory.proofs.Flow.{same-refl, same-flip, among-here, among-there, among-other}

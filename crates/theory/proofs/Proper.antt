@@ -5,10 +5,8 @@ use mathlib.Core.Bool.{Bool, true, false}
 use mathlib.Core.List.{List, [], _∷_, _++_}
 use Prim.Native.Nat.{ℕ, _≤_}
 use Rattle.laws.proofs.Bools.{split, clash}
-use Rattle.theory.specs.Flow.{Key, sameKey, Distinct}
-use Rattle.theory.specs.Encode.{Placement}
-use Rattle.theory.specs.Session.{Record, Session, keysOf, newRecord, takeOut, withCount, setCount}
-use Rattle.theory.specs.Settle.{next, peelPure, countStep, settle}
+use Rattle.theory.specs.Encode.{Key, sameKey, Distinct, Placement}
+use Rattle.theory.specs.Session.{Record, Session, keysOf, newRecord, takeOut, withCount, setCount, next, peelPure, countStep, settle}
 use Rattle.theory.specs.HandOver.{Switch, handOver}
 use Rattle.theory.specs.Fits.{Fits}
 use Rattle.theory.specs.Notes.{Noted, noted, mapResult, settleNoted, handNoted}

@@ -9,11 +9,8 @@ use native.Mathlib.Nat.{le-refl}
 use native.Mathlib.Omega.{arith}
 use lib.ListN.{length, length-append}
 use Rattle.laws.proofs.Bools.{split, clash, and-f, or-fl, or-fr}
-use Rattle.theory.specs.Flow.{Key, sameKey, among, Distinct}
-use Rattle.theory.specs.Encode.{Placement}
-use Rattle.theory.specs.Session.{Record, Session, keysOf, keysWhere, unknownsOf, handedOf, peeledOf, listed, unknown, handedOver}
-use Rattle.theory.specs.Session.{counted, countOf}
-use Rattle.theory.specs.Session.{newRecord, takeOut, withCount, setCount}
+use Rattle.theory.specs.Encode.{Key, sameKey, among, Distinct, Placement}
+use Rattle.theory.specs.Session.{Record, Session, keysOf, keysWhere, unknownsOf, handedOf, peeledOf, listed, unknown, handedOver, counted, countOf, newRecord, takeOut, withCount, setCount}
 use Rattle.theory.specs.Invariant.{CountsRight}
 use Rattle.theory.proofs.Flow.{same-refl, same-eq, among-here, among-there, among-cases, among-none, among-append, distinct-append}
 

@@ -2,7 +2,7 @@
 use mathlib.Core.Path.{_≡_, refl, sym, ap, _∙_}
 use Prim.Native.Nat.{ℕ, zero, suc, _≤_, _<_}
 use native.Mathlib.Omega.{arith}
-use Rattle.theory.specs.Settle.{Step, quiet, full, damaged, next, Stop, settled, listFull, damage, Result, afterStep, repeat}
+use Rattle.theory.specs.Session.{Step, quiet, full, damaged, next, Stop, settled, listFull, damage, Result, afterStep, repeat}
 use Rattle.theory.specs.Notes.{mapStep, mapResult}
 
 -- the step that ends so

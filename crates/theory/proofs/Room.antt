@@ -11,8 +11,7 @@ use lib.ListN.{length}
 use lib.Dec.{ltb}
 use Rattle.laws.proofs.Bools.{split}
 use Rattle.laws.proofs.Upto.{any-some}
-use Rattle.theory.specs.Session.{keysOf}
-use Rattle.theory.specs.Settle.{Stop, settled, listFull, damage}
+use Rattle.theory.specs.Session.{keysOf, Stop, settled, listFull, damage}
 use Rattle.theory.specs.HandOver.{Switch, handEach, settleAt}
 use Rattle.theory.specs.Fits.{Fits}
 use Rattle.theory.specs.Family.{Family, FamilyEnding, ended, stoppedAt, Ended, Way, leads, handTo, handAlong, andThen, endingAt, settleOne}

@@ -4,11 +4,11 @@ use mathlib.Core.Logic.{inl, inr}
 use mathlib.Core.Bool.{Bool, true, false, not}
 use Prim.Native.Nat.{ℕ}
 use Rattle.laws.proofs.Bools.{split, and-l, or-e, or-l, or-r}
-use Rattle.theory.specs.Flow.{Key, sameKey, among}
+use Rattle.theory.specs.Encode.{Key, sameKey, among, outside, Only}
 use Rattle.theory.specs.Session.{Session, listed, unknown, handedOver, counted, theUnknown}
 use Rattle.theory.specs.HandOver.{Switch}
-use Rattle.theory.specs.Invariant.{Counted, Holds, outside}
-use Rattle.theory.specs.Runs.{Run, start, handed, peeled, told, Only, PeelClosed}
+use Rattle.theory.specs.Invariant.{Counted, Holds}
+use Rattle.theory.specs.Runs.{Run, start, handed, peeled, told, PeelClosed}
 use Rattle.theory.proofs.Flow.{same-eq}
 use Rattle.theory.proofs.Records.{where-listed, listed-take, counted-take, handed-take, handed-peel, listed-count, handed-count, counted-count}
 use Rattle.theory.proofs.Outside.{outside-not, only-mono}

@@ -9,11 +9,8 @@ use lib.ListN.{length}
 use lib.Dec.{eqb, ltb}
 use Rattle.laws.proofs.Bools.{split, clash, ne-is}
 use Rattle.laws.proofs.Upto.{any-no, any-none}
-use Rattle.theory.specs.Flow.{Key, among}
-use Rattle.theory.specs.Encode.{Placement}
-use Rattle.theory.specs.Session.{Session, unknownsOf, handedOf, listed, pure, ready, theUnknown, hasEmptyCell, openCells}
-use Rattle.theory.specs.Settle.{quiet, full, damaged, next, Stop, settled, listFull, damage, peelDamaged, peelPure}
-use Rattle.theory.specs.Settle.{peel, countDamaged, countStep, peels, counts, thenCounts, settle}
+use Rattle.theory.specs.Encode.{Key, among, Placement}
+use Rattle.theory.specs.Session.{Session, unknownsOf, handedOf, listed, pure, ready, theUnknown, hasEmptyCell, openCells, quiet, full, damaged, next, Stop, settled, listFull, damage, peelDamaged, peelPure, peel, countDamaged, countStep, peels, counts, thenCounts, settle}
 use Rattle.theory.specs.Fits.{Fits}
 use Rattle.theory.specs.HandOver.{Switch}
 use Rattle.theory.specs.Invariant.{Counted, Holds}

@@ -11,12 +11,10 @@ use lib.Dec.{eqb}
 use Rattle.laws.specs.Xor.{xorBytes}
 use Rattle.laws.proofs.Bools.{split, clash, and-l, and-r, and-i}
 use Rattle.laws.proofs.Xor.{xorBytes-comm, xorBytes-assoc, xorBytes-zero}
-use Rattle.theory.specs.Flow.{Key, among, Distinct, total, count}
-use Rattle.theory.specs.Encode.{Placement}
+use Rattle.theory.specs.Encode.{Key, among, Distinct, total, count, Placement, outside, Only}
 use Rattle.theory.specs.Session.{Session, unknownsOf, listed, unknown, counted, pure, unknownsIn, ready, first, theUnknown}
 use Rattle.theory.specs.HandOver.{Switch}
-use Rattle.theory.specs.Invariant.{Counted, Holds, outside}
-use Rattle.theory.specs.Runs.{Only}
+use Rattle.theory.specs.Invariant.{Counted, Holds}
 use Rattle.theory.proofs.Flow.{among-here, among-there, among-cases, among-none}
 use Rattle.theory.proofs.Sums.{sum-congr, sum-none, sum-only, sum-part, count-none, count-one, total-split}
 use Rattle.theory.proofs.Records.{where-listed, where-distinct}

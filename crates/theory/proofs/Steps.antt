@@ -10,11 +10,8 @@ use lib.Dec.{eqb, ltb, leb}
 use Rattle.laws.specs.Upto.{anyUpto, lowest, numberUpto}
 use Rattle.laws.proofs.Bools.{split, clash, or-fl, positive-of}
 use Rattle.laws.proofs.Upto.{any-no}
-use Rattle.theory.specs.Flow.{Key, among}
-use Rattle.theory.specs.Encode.{Placement}
-use Rattle.theory.specs.Session.{Session, unknownsOf, peeledOf, unknown, pure, ready, theUnknown}
-use Rattle.theory.specs.Session.{openCells, newRecord, takeOut, setCount}
-use Rattle.theory.specs.Settle.{Step, quiet, full, damaged, next, peelDamaged, peelAt, peel, peelPure, countDamaged, countAt, countStep}
+use Rattle.theory.specs.Encode.{Key, among, Placement}
+use Rattle.theory.specs.Session.{Session, unknownsOf, peeledOf, unknown, pure, ready, theUnknown, openCells, newRecord, takeOut, setCount, Step, quiet, full, damaged, next, peelDamaged, peelAt, peel, peelPure, countDamaged, countAt, countStep}
 use Rattle.theory.specs.Fits.{Fits}
 use Rattle.theory.proofs.Flow.{find}
 use Rattle.theory.proofs.Sums.{sum-none}

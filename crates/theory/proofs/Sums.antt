@@ -7,7 +7,7 @@ use Prim.Native.Nat.{ℕ, _+_}
 use native.Mathlib.Nat.{add-assoc, add-comm}
 use native.Mathlib.Omega.{arith}
 use Rattle.laws.proofs.Bools.{split, clash, and-f, and-i}
-use Rattle.theory.specs.Flow.{Key, sameKey, among, Distinct, sumOver, total, count}
+use Rattle.theory.specs.Encode.{Key, sameKey, among, Distinct, sumOver, total, count}
 use Rattle.theory.proofs.Flow.{same-refl, same-eq, same-flip, among-here, among-there, among-cases, among-none, among-other, find}
 use Rattle.theory.proofs.Flow.{without, without-self, without-other, without-is}
 

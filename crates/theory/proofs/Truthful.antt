@@ -9,11 +9,10 @@ use native.Mathlib.Omega.{arith}
 use lib.ListN.{replicate}
 use Rattle.laws.specs.Xor.{xorBytes}
 use Rattle.laws.proofs.Bools.{split}
-use Rattle.theory.specs.Flow.{Key, sumOver}
-use Rattle.theory.specs.Encode.{encodeCell}
+use Rattle.theory.specs.Encode.{Key, sumOver, encodeCell, outside}
 use Rattle.theory.specs.Session.{Session, listed, counted}
 use Rattle.theory.specs.HandOver.{Switch}
-use Rattle.theory.specs.Invariant.{Counted, Holds, outside}
+use Rattle.theory.specs.Invariant.{Counted, Holds}
 use Rattle.theory.specs.Demands.{keep}
 use Rattle.theory.proofs.Encode.{cell-path}
 

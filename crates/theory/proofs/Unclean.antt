@@ -3,9 +3,8 @@ use mathlib.Core.Path.{_≡_, refl}
 use mathlib.Core.List.{[], _∷_}
 use Rattle.laws.specs.Xor.{xorBytes}
 use Rattle.laws.specs.Upto.{anyUpto, lowest, numberUpto}
-use Rattle.theory.specs.Flow.{sameKey, among, sumOver}
-use Rattle.theory.specs.Session.{keysOf, keysWhere, pure, ready, first, hasEmptyCell, openCells, takeOut, withCount, setCount}
-use Rattle.theory.specs.Settle.{settled, afterStep, repeat, peelDamaged, peelAt, peel, countDamaged, countAt, countStep, thenCounts, settle}
+use Rattle.theory.specs.Encode.{sameKey, among, sumOver}
+use Rattle.theory.specs.Session.{keysOf, keysWhere, pure, ready, first, hasEmptyCell, openCells, takeOut, withCount, setCount, settled, afterStep, repeat, peelDamaged, peelAt, peel, countDamaged, countAt, countStep, thenCounts, settle}
 use Rattle.theory.specs.HandOver.{hand, settling, handAnswer, handOver, call, calls}
 use Rattle.theory.specs.Report.{whole, report}
 use Rattle.theory.specs.Unclean.{placed, table, End, ends}

@@ -10,7 +10,7 @@ use lib.ListN.{length}
 use lib.Dec.{ltb}
 use Rattle.laws.proofs.Bools.{split, iff}
 use Rattle.laws.proofs.Upto.{any-some}
-use Rattle.theory.specs.Flow.{Key, among}
+use Rattle.theory.specs.Encode.{Key, among}
 use Rattle.theory.specs.Session.{Session, unknownsOf, listed, unknown, counted, countOf, openCells}
 use Rattle.theory.specs.HandOver.{Switch, Call, calls}
 use Rattle.theory.specs.Invariant.{Counted, received, Holds}

@@ -4,10 +4,8 @@ use mathlib.Core.List.{List, [], _∷_}
 use mathlib.Core.Option.{Option, some, none}
 use Prim.Native.Nat.{ℕ}
 use lib.Dec.{eqb}
-use Rattle.theory.specs.Flow.{Key, sameKey}
-use Rattle.theory.specs.Encode.{Table, Placement, emptyTable, encode}
-use Rattle.theory.specs.Session.{Record, Session, opened}
-use Rattle.theory.specs.Settle.{Stop, settled, listFull, damage, settle}
+use Rattle.theory.specs.Encode.{Key, sameKey, Table, Placement, emptyTable, encode}
+use Rattle.theory.specs.Session.{Record, Session, opened, Stop, settled, listFull, damage, settle}
 use Rattle.theory.specs.HandOver.{Switch, handAnswer, handOver, Call, hand, settling, calls}
 use Rattle.theory.specs.Report.{State, stuck, short, whole, report}
 

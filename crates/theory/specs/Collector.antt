@@ -8,10 +8,8 @@ use Prim.Native.Nat.{ℕ}
 use lib.Dec.{eqb}
 use lib.ListN.{length}
 use Rattle.laws.specs.Upto.{lowest}
-use Rattle.theory.specs.Flow.{Key}
-use Rattle.theory.specs.Encode.{Placement, Taken, flowsOf, packetsOf, NeverMistaken}
-use Rattle.theory.specs.Session.{Record, Session}
-use Rattle.theory.specs.Settle.{Step, next}
+use Rattle.theory.specs.Encode.{Key, Placement, Taken, flowsOf, packetsOf, NeverMistaken}
+use Rattle.theory.specs.Session.{Record, Session, Step, next}
 use Rattle.theory.specs.HandOver.{Switch, Call, hand, settling}
 use Rattle.theory.specs.Report.{Report, report}
 use Rattle.theory.specs.Invariant.{Counted}

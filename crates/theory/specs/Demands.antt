@@ -4,13 +4,10 @@ use mathlib.Core.Bool.{Bool, true, not, cond}
 use mathlib.Core.List.{List, [], _∷_}
 use mathlib.Core.Option.{Option, some, none}
 use Prim.Native.Nat.{ℕ}
-use Rattle.theory.specs.Flow.{Key, among, Distinct}
-use Rattle.theory.specs.Encode.{Table, Placement, Taken, flowsOf, NeverMistaken, encodeCell, encode}
-use Rattle.theory.specs.Session.{Session, opened, keysOf, listed, handedOver, counted, countOf, takeOut}
-use Rattle.theory.specs.Settle.{settle}
+use Rattle.theory.specs.Encode.{Key, among, Distinct, Table, Placement, Taken, flowsOf, NeverMistaken, encodeCell, encode, outside, Only}
+use Rattle.theory.specs.Session.{Session, opened, keysOf, listed, handedOver, counted, countOf, takeOut, settle}
 use Rattle.theory.specs.Report.{Report, report}
-use Rattle.theory.specs.Invariant.{outside}
-use Rattle.theory.specs.Runs.{Only, PeelClosed}
+use Rattle.theory.specs.Runs.{PeelClosed}
 
 -- ---- premises
 -- mission: "If the filter never took a new flow for an old one and each flow accepted from a neighbour was counted here"

@@ -1,12 +1,47 @@
--- The encoder over any placement: cells, packets taken, and the cells that a flowset has.
+-- Keys, cells, packets taken, and the cells that a flowset has: the encoder over any placement.
 use mathlib.Core.Path.{_≡_}
-use mathlib.Core.Bool.{Bool, true, false, cond}
+use mathlib.Core.Bool.{Bool, true, false, not, cond, _&&_, _||_}
 use mathlib.Core.List.{List, [], _∷_, _++_}
 use Prim.Native.Nat.{ℕ, _+_, _≤_}
+use lib.Dec.{eqb}
 use lib.ListN.{length, replicate}
 use Rattle.laws.specs.Xor.{xorBytes}
-use Rattle.theory.specs.Flow.{Key, sameKey, among, Distinct, sumOver, total, count}
 
+-- ---- keys, lists of keys, and the sum over the keys of a list that pass a test
+-- 01 'Keys and hashing': "A key is 13 bytes in network order"; here of any length
+abbrev pub Key : Type 0
+Key = List ℕ
+
+unfoldable pub sameKey : Key → Key → Bool
+sameKey [] [] = true
+sameKey [] (y ∷ ys) = false
+sameKey (x ∷ xs) [] = false
+sameKey (x ∷ xs) (y ∷ ys) = eqb x y && sameKey xs ys
+
+-- whether the key stands in the list
+unfoldable pub among : Key → List Key → Bool
+among k [] = false
+among k (x ∷ l) = sameKey k x || among k l
+
+-- no key stands in the list twice
+unfoldable pub Distinct : List Key → Type 0
+Distinct [] = Unit {0}
+Distinct (x ∷ l) = (among x l ≡ false) × Distinct l
+
+-- the sum, by the operation op from e, of the values of the keys in the list that pass the test
+unfoldable pub sumOver : {M : Type 0} → (M → M → M) → M → (Key → Bool) → (Key → M) → List Key → M
+sumOver op e passes value [] = e
+sumOver op e passes value (x ∷ l) = cond (passes x) (op (value x) (sumOver op e passes value l)) (sumOver op e passes value l)
+
+-- the sum of numbers
+abbrev pub total : (Key → Bool) → (Key → ℕ) → List Key → ℕ
+total = sumOver _+_ 0
+
+-- how many keys of the list pass
+abbrev pub count : (Key → Bool) → List Key → ℕ
+count passes = total passes (λ k. 1)
+
+-- ---- cells, and what packets make of them
 -- 01 'Blocks of 512 bytes': "FlowXOR 13, zero 1, FlowCount 2, PacketCount 4"
 pub record Cell : Type 0 where
   pub flowXor : Key
@@ -114,3 +149,14 @@ pub record FlowSet (keyLength : ℕ) (F : List Key) (packets : Key → ℕ) : Ty
   pub apart : Distinct F
   pub sized : (k : Key) → among k F ≡ true → length k ≡ keyLength
   pub some-packet : (k : Key) → among k F ≡ true → 1 ≤ packets k
+
+-- ---- of a set of flows
+-- the keys of cell c outside a set
+unfoldable pub outside : Placement → (Key → Bool) → ℕ → Key → Bool
+outside has X c k = has k c && not (X k)
+
+-- x is the one key of the list that passes
+pub record Only (passes : Key → Bool) (l : List Key) (x : Key) : Type 0 where
+  pub member : among x l ≡ true
+  pub chosen : passes x ≡ true
+  pub alone : (k : Key) → among k l ≡ true → passes k ≡ true → k ≡ x

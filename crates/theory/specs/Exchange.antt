@@ -5,9 +5,8 @@ use mathlib.Core.List.{List, [], _∷_}
 use Prim.Native.Nat.{ℕ, zero, suc, _+_, _*_}
 use lib.ListN.{length}
 use lib.Dec.{eqb, ltb}
-use Rattle.theory.specs.Flow.{Key, among}
-use Rattle.theory.specs.Session.{Session, keysOf, listed, countOf}
-use Rattle.theory.specs.Settle.{Stop, settled, listFull, damage}
+use Rattle.theory.specs.Encode.{Key, among}
+use Rattle.theory.specs.Session.{Session, keysOf, listed, countOf, Stop, settled, listFull, damage}
 use Rattle.theory.specs.HandOver.{Switch, handAnswer, handOver, calls, handEach, settleAt}
 use Rattle.theory.specs.Runs.{PeelClosed}
 use Rattle.theory.specs.Invariant.{Counted, received}

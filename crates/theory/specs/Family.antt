@@ -6,9 +6,8 @@ use Prim.Native.Nat.{ℕ, zero, suc, _+_, _*_, _<_}
 use lib.ListN.{length}
 use lib.Dec.{eqb, ltb}
 use Rattle.laws.specs.Upto.{anyUpto}
-use Rattle.theory.specs.Flow.{Key, among}
-use Rattle.theory.specs.Session.{Session, keysOf, listed}
-use Rattle.theory.specs.Settle.{Stop, settled, listFull, damage}
+use Rattle.theory.specs.Encode.{Key, among}
+use Rattle.theory.specs.Session.{Session, keysOf, listed, Stop, settled, listFull, damage}
 use Rattle.theory.specs.HandOver.{Switch, settleAt}
 use Rattle.theory.specs.Runs.{PeelClosed}
 use Rattle.theory.specs.Invariant.{Counted}

@@ -4,10 +4,8 @@ use mathlib.Core.List.{List, [], _∷_}
 use Prim.Native.Nat.{ℕ}
 use lib.ListN.{length}
 use lib.Dec.{eqb, leb}
-use Rattle.theory.specs.Flow.{Key}
-use Rattle.theory.specs.Encode.{Placement}
-use Rattle.theory.specs.Session.{Session, listed, handedOf, hasEmptyCell, takeOut}
-use Rattle.theory.specs.Settle.{Result, settle}
+use Rattle.theory.specs.Encode.{Key, Placement}
+use Rattle.theory.specs.Session.{Session, listed, handedOf, hasEmptyCell, takeOut, Result, settle}
 
 -- what a switch received: its number of cells, where keys are placed, and which keys its filter passes
 pub record Switch : Type 0 where

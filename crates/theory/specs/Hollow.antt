@@ -6,10 +6,8 @@ use mathlib.Core.Option.{Option, some, none}
 use Prim.Native.Nat.{ℕ, _+_}
 use lib.Dec.{eqb}
 use lib.ListN.{length}
-use Rattle.theory.specs.Flow.{Key, sameKey, among}
-use Rattle.theory.specs.Encode.{Table, Placement, Taken, addFlow, flowsOf, packetsOf, emptyTable, encode}
-use Rattle.theory.specs.Session.{Record, Session, opened, handedOf}
-use Rattle.theory.specs.Settle.{Step, stopNumber, peelPure}
+use Rattle.theory.specs.Encode.{Key, sameKey, among, Table, Placement, Taken, addFlow, flowsOf, packetsOf, emptyTable, encode}
+use Rattle.theory.specs.Session.{Record, Session, opened, handedOf, Step, stopNumber, peelPure}
 use Rattle.theory.specs.HandOver.{Switch, handAnswer, handOver, settleAt}
 use Rattle.theory.specs.Report.{Report, report}
 use Rattle.theory.specs.Exchange.{Pair, exchange}

@@ -6,8 +6,7 @@ use Prim.Native.Nat.{ℕ, _<_}
 use lib.ListN.{replicate}
 use Rattle.laws.specs.Xor.{xorBytes}
 use Rattle.laws.specs.Upto.{anyUpto}
-use Rattle.theory.specs.Flow.{Key, among, Distinct, sumOver, total, count}
-use Rattle.theory.specs.Encode.{Placement, encode, FlowSet}
+use Rattle.theory.specs.Encode.{Key, among, Distinct, sumOver, total, count, Placement, encode, FlowSet, outside}
 use Rattle.theory.specs.HandOver.{Switch}
 use Rattle.theory.specs.Session.{Record, Session, opened, keysOf, listed, counted}
 
@@ -15,10 +14,6 @@ use Rattle.theory.specs.Session.{Record, Session, opened, keysOf, listed
 pub record Placed (n : ℕ) (has : Placement) : Type 0 where
   pub within : (k : Key) (c : ℕ) → has k c ≡ true → c < n
   pub somewhere : (k : Key) → anyUpto n (has k) ≡ true
-
--- the keys of cell c outside a set
-unfoldable pub outside : Placement → (Key → Bool) → ℕ → Key → Bool
-outside has X c k = has k c && not (X k)
 
 -- each known count is the flow's
 unfoldable pub CountsRight : (Key → ℕ) → List Record → Type 0

@@ -1,8 +1,6 @@
 -- Definitions that the theorems and other crates cite.
-pub mod Flow
 pub mod Encode
 pub mod Session
-pub mod Settle
 pub mod HandOver
 pub mod Report
 pub mod Fits

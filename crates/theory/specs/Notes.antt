@@ -6,10 +6,8 @@ use lib.Bits.{bitXor}
 use lib.Dec.{eqb}
 use lib.ListN.{length, getD, set}
 use Rattle.laws.specs.Upto.{anyUpto, lowest}
-use Rattle.theory.specs.Flow.{Key}
-use Rattle.theory.specs.Encode.{Placement}
-use Rattle.theory.specs.Session.{Record, Session, unknownsOf, pure, unknownsIn, newRecord, toldRecord, takeOut, setCount}
-use Rattle.theory.specs.Settle.{Step, quiet, full, damaged, next, Stop, settled, listFull, damage, Result, repeat, peel, countDamaged}
+use Rattle.theory.specs.Encode.{Key, Placement}
+use Rattle.theory.specs.Session.{Record, Session, unknownsOf, pure, unknownsIn, newRecord, toldRecord, takeOut, setCount, Step, quiet, full, damaged, next, Stop, settled, listFull, damage, Result, repeat, peel, countDamaged}
 use Rattle.theory.specs.HandOver.{Switch, handAnswer}
 
 -- 01 'A session': a mark, "the number of listed flows in it whose count is unknown, and the XOR of their list positions, from 0"

@@ -4,8 +4,7 @@ use mathlib.Core.Bool.{true}
 use mathlib.Core.List.{List, [], _∷_}
 use Prim.Native.Nat.{ℕ, _*_, _≤_}
 use lib.ListN.{length}
-use Rattle.theory.specs.Flow.{Distinct}
-use Rattle.theory.specs.Encode.{Placement}
+use Rattle.theory.specs.Encode.{Distinct, Placement}
 use Rattle.theory.specs.Session.{Record, keysOf}
 use Rattle.theory.specs.Fits.{Fits}
 use Rattle.theory.specs.Notes.{Noted, scan}

@@ -3,12 +3,11 @@ use mathlib.Core.Path.{_≡_}
 use mathlib.Core.Bool.{Bool, true, false}
 use mathlib.Core.List.{List}
 use Prim.Native.Nat.{ℕ, _<_}
-use Rattle.theory.specs.Flow.{Key, among}
-use Rattle.theory.specs.Encode.{Placement}
+use Rattle.theory.specs.Encode.{Key, among, Placement, Only, outside}
 use Rattle.theory.specs.Session.{Session, listed, pure, ready, theUnknown, takeOut, setCount}
 use Rattle.theory.specs.HandOver.{Switch}
 use Rattle.theory.specs.Fits.{Fits}
-use Rattle.theory.specs.Invariant.{Counted, received, outside}
+use Rattle.theory.specs.Invariant.{Counted, received}
 
 pub data Run (has : Placement) (F : List Key) (s₀ : Session) : Session → Type 0 where
   start : Run has F s₀ s₀
@@ -25,12 +24,6 @@ pub record Going (w : Switch) (F : List Key) (s₀ s : Session) : Type 0 where
 -- a session of the flows that a switch counted: a run from what it received
 abbrev pub Stands : (w : Switch) → Counted w → Session → Type 0
 Stands w e = Going w (e .flows) (received w e)
-
--- x is the one key of the list that passes
-pub record Only (passes : Key → Bool) (l : List Key) (x : Key) : Type 0 where
-  pub member : among x l ≡ true
-  pub chosen : passes x ≡ true
-  pub alone : (k : Key) → among k l ≡ true → passes k ≡ true → k ≡ x
 
 -- no cell has exactly one flow of F outside X
 abbrev pub PeelClosed : Placement → List Key → (Key → Bool) → Type 0

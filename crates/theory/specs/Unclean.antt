@@ -4,10 +4,8 @@ use mathlib.Core.List.{List, [], _∷_}
 use Prim.Native.Nat.{ℕ}
 use lib.Dec.{eqb}
 use lib.ListN.{getD}
-use Rattle.theory.specs.Flow.{Key}
-use Rattle.theory.specs.Encode.{Cell, Table, Placement}
-use Rattle.theory.specs.Session.{keysOf, opened}
-use Rattle.theory.specs.Settle.{Stop}
+use Rattle.theory.specs.Encode.{Key, Cell, Table, Placement}
+use Rattle.theory.specs.Session.{keysOf, opened, Stop}
 use Rattle.theory.specs.HandOver.{Switch, Call, calls, settleAt}
 use Rattle.theory.specs.Report.{State, report}
 

@@ -12,7 +12,7 @@ use Rattle.packet.specs.Key.{keyFrom}
 use Rattle.list.specs.Records.{Records}
 use Rattle.lines.specs.Text.{flowLine}
 use Rattle.printing.specs.Print.{recordLine}
-use Rattle.theory.specs.Flow.{Key, sameKey, among, Distinct}
+use Rattle.theory.specs.Encode.{Key, sameKey, among, Distinct}
 use Rattle.theory.specs.Session.{Record, keysOf, keysWhere, unknownsOf, countOf}
 use Rattle.theory.specs.Invariant.{CountsRight}
 use Rattle.theory.proofs.Flow.{same-refl, same-eq}

@@ -39,12 +39,9 @@ use Rattle.meaning.specs.Meaning as encoder
 use Rattle.meaning.proofs.Ipv4.{start-clears}
 use Rattle.meaning.proofs.Meaning.{packets-mean}
 use Rattle.meaning.proofs.Session.{cells-placed}
-use Rattle.theory.specs.Flow.{Key, sameKey, among, Distinct, sumOver, count}
-use Rattle.theory.specs.Encode.{Taken, flowsOf, packetsOf, NeverMistaken, encodeCell}
+use Rattle.theory.specs.Encode.{Key, sameKey, among, Distinct, sumOver, count, Taken, flowsOf, packetsOf, NeverMistaken, encodeCell}
 use Rattle.theory.specs.Session as theory
-use Rattle.theory.specs.Session.{Record, keysOf, keysWhere, unknownsOf, openCells}
-use Rattle.theory.specs.Settle.{Stop, stopNumber}
-use Rattle.theory.specs.Settle as stop
+use Rattle.theory.specs.Session.{Record, keysOf, keysWhere, unknownsOf, openCells, Stop, stopNumber}
 use Rattle.theory.specs.HandOver.{settling, settleAt}
 use Rattle.theory.specs.Report as theory-report
 use Rattle.theory.specs.Demands.{keep}
@@ -78,10 +75,10 @@ same-sizes numbers (settled.Damaged n c) = refl
 same-sizes numbers settled.NotSession = refl
 same-sizes numbers settled.BadRoom = refl
 
-stop-0 : (a : Stop) → stopNumber a ≡ 0 → a ≡ stop.settled
-stop-0 stop.settled e = refl
-stop-0 (stop.listFull c) e = absurd (omega arith)
-stop-0 (stop.damage c) e = absurd (omega arith)
+stop-0 : (a : Stop) → stopNumber a ≡ 0 → a ≡ theory.settled
+stop-0 theory.settled e = refl
+stop-0 (theory.listFull c) e = absurd (omega arith)
+stop-0 (theory.damage c) e = absurd (omega arith)
 
 -- where no count is unknown, all are known
 known-all : (rs : List Record) → unknownsOf rs ≡ [] → length (keysWhere (λ r. r .known) rs) ≡ length rs

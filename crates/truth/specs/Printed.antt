@@ -17,8 +17,7 @@ use Rattle.sealing.specs.Seal.{sealOf, sealing}
 use Rattle.summary.specs.declared.Report.{Report}
 use Rattle.summary.specs.Report.{stateOf}
 use Rattle.lines.specs.Text.{headLine, flowLine}
-use Rattle.theory.specs.Flow.{Key, among, Distinct, count}
-use Rattle.theory.specs.Encode.{Taken, flowsOf, packetsOf}
+use Rattle.theory.specs.Encode.{Key, among, Distinct, count, Taken, flowsOf, packetsOf}
 use Rattle.theory.specs.Runs.{PeelClosed}
 use Rattle.theory.specs.Demands.{keep}
 
