@@ -11,7 +11,7 @@
  * overlap with no other one; `numbers` points to ELDERFLUTE_NUMBERS, `key` to ELDERFLUTE_KEY_BYTES, `figures` to ELDERFLUTE_FIGURES and
  * `told` to ELDERFLUTE_TOLD elements.
  *
- * On every refusal but ELDERFLUTE_DAMAGE and ELDERFLUTE_LIST_FULL all that is lent stays as it was, except for *block.
+ * On every refusal but ELDERFLUTE_DAMAGE all that is lent stays as it was, except for *block.
  */
 #ifndef ELDERFLUTE_H
 #define ELDERFLUTE_H
@@ -23,7 +23,7 @@
 extern "C" {
 #endif
 
-/* 01's numbers. */
+/* 01's numbers. No call answers 13, and the number is not used again. */
 enum elderflute_number {
     ELDERFLUTE_DONE = 0,
     ELDERFLUTE_LENGTH = 1,        /* image: its length */
@@ -38,7 +38,6 @@ enum elderflute_number {
     ELDERFLUTE_LISTED = 10,       /* hand-over: the key is listed already */
     ELDERFLUTE_EMPTY_CELL = 11,   /* hand-over: one of the key's cells has FlowCount 0 */
     ELDERFLUTE_TOO_MANY = 12,     /* hand-over: N flows were handed over already */
-    ELDERFLUTE_LIST_FULL = 13,    /* settle, exchange: 2 N flows are listed; it cannot occur */
     ELDERFLUTE_DAMAGE = 14,       /* settle, exchange: the cells contradict each other */
     ELDERFLUTE_SLOTS_DIFFER = 15, /* exchange of two different slots */
     ELDERFLUTE_ROOM = 16          /* lent room of the wrong length */
@@ -60,12 +59,12 @@ static inline const char *elderflute_words(uint32_t number) {
         "hand-over: the key is listed already",
         "hand-over: a cell of the key has no flow left",
         "hand-over: as many flows as there are cells were handed over already",
-        "settle: the list is full",
+        NULL, /* 13 */
         "damage: the cells contradict each other",
         "exchange: the two sessions are of different slots",
         "room: lent memory of the wrong length",
     };
-    return number < sizeof words / sizeof *words ? words[number] : "a number that this version does not know";
+    return number < sizeof words / sizeof *words && words[number] ? words[number] : "a number that this version does not know";
 }
 
 /*
@@ -89,7 +88,7 @@ enum { ELDERFLUTE_KF, ELDERFLUTE_F, ELDERFLUTE_K, ELDERFLUTE_Q, ELDERFLUTE_SALT,
 /* Places in the figures of a report. */
 enum { ELDERFLUTE_LISTED_FLOWS, ELDERFLUTE_COUNTED_FLOWS, ELDERFLUTE_OPEN_CELLS, ELDERFLUTE_STATE, ELDERFLUTE_FIGURES };
 
-/* Places in what an exchange tells: hand-overs answered with 12; the switch that a LIST_FULL or DAMAGE is of (1 A, 2 B, else 0); its cell. */
+/* Places in what an exchange tells: hand-overs answered with 12; the switch that a DAMAGE is of (1 A, 2 B, else 0); its cell. */
 enum { ELDERFLUTE_TWELVES, ELDERFLUTE_SWITCH, ELDERFLUTE_CELL, ELDERFLUTE_TOLD };
 
 /* Bits of a listed flow's flags. */
@@ -180,9 +179,9 @@ uint32_t elderflute_hand_over(const uint32_t *numbers, size_t *listed, const uin
 
 /*
  * Settles a session: finds flows and their counts as far as they can be told.
- * DONE: *listed flows are then listed. DAMAGE, LIST_FULL: *cell is the cell where the step would have started, the steps before it stand, and
+ * DONE: *listed flows are then listed. DAMAGE: *cell is the cell where the step would have started, the steps before it stand, and
  * *listed flows are then listed. NOT_SESSION for a size, ROOM, NOT_SESSION for the rest; tested in this order, before any step.
- * *cell is written with DAMAGE and LIST_FULL only.
+ * *cell is written with DAMAGE only.
  */
 uint32_t elderflute_settle(const uint32_t *numbers, size_t *listed, size_t *cell, const uint8_t *filter, size_t filter_length, uint8_t *xors,
                            size_t xors_length, uint16_t *flows, size_t flows_length, uint32_t *packets, size_t packets_length,
@@ -195,7 +194,7 @@ uint32_t elderflute_settle(const uint32_t *numbers, size_t *listed, size_t *cell
  * until a round in which neither list grew. Each buffer holds A's part and right behind it B's: its length is the sum of the two lengths of its kind
  * (marks: ELDERFLUTE_MARKS of A and of B).
  * DONE: *listed_a and *listed_b flows are listed, told has the hand-overs that were answered with 12. NOT_SESSION for a size of either, ROOM, NOT_SESSION
- * for the rest of either, SLOTS_DIFFER; tested in this order. DAMAGE and LIST_FULL: told names the switch and the cell, the steps before it stand.
+ * for the rest of either, SLOTS_DIFFER; tested in this order. DAMAGE: told names the switch and the cell, the steps before it stand.
  */
 uint32_t elderflute_exchange(const uint32_t *numbers_a, size_t *listed_a, const uint32_t *numbers_b, size_t *listed_b, size_t *told, const
                              uint8_t *filter, size_t filter_length, uint8_t *xors, size_t xors_length, uint16_t *flows, size_t flows_length,

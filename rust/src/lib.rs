@@ -17,7 +17,7 @@ pub const HANDED: u8 = 2;
 /// The 13 bytes of a key.
 pub type Key = [u8; KEY_BYTES];
 
-/// Why a call did not do what it is for.
+/// Why a call did not do what it is for. No call answers 13, and the number is not used again.
 #[derive(Clone, Copy, PartialEq, Eq, Debug)]
 #[repr(u32)]
 pub enum Refusal {
@@ -45,8 +45,6 @@ pub enum Refusal {
     EmptyCell = 11,
     /// N flows were handed over already.
     TooMany = 12,
-    /// 2 N flows are listed; it cannot occur.
-    ListFull = 13,
     /// The cells contradict each other.
     Damage = 14,
     /// Two sessions of different slots.
@@ -60,7 +58,7 @@ pub enum Refusal {
 use Refusal::*;
 
 impl Refusal {
-    const ALL: [Refusal; 16] = [
+    const ALL: [Refusal; 15] = [
         Length,
         Check,
         Form,
@@ -73,7 +71,6 @@ impl Refusal {
         Listed,
         EmptyCell,
         TooMany,
-        ListFull,
         Damage,
         SlotsDiffer,
         Room,
@@ -101,7 +98,6 @@ impl Refusal {
             Listed => "hand-over: the key is listed already",
             EmptyCell => "hand-over: a cell of the key has no flow left",
             TooMany => "hand-over: as many flows as there are cells were handed over already",
-            ListFull => "settle: the list is full",
             Damage => "damage: the cells contradict each other",
             SlotsDiffer => "exchange: the two sessions are of different slots",
             Room => "room: lent memory of the wrong length",
@@ -111,8 +107,8 @@ impl Refusal {
 
     /// The refusal of a number; none for 0.
     pub fn of(number: u32) -> Option<Refusal> {
-        let place = number.checked_sub(1)? as usize;
-        Some(Refusal::ALL.get(place).copied().unwrap_or(Unknown))
+        let known = Refusal::ALL.into_iter().find(|refusal| refusal.number() == number);
+        (number != 0).then_some(known.unwrap_or(Unknown))
     }
 }
 
@@ -183,7 +179,7 @@ pub struct BadImage {
     pub block: usize,
 }
 
-/// Where settling stopped: why, and the cell for [`Refusal::Damage`] and [`Refusal::ListFull`].
+/// Where settling stopped: why, and the cell for [`Refusal::Damage`].
 #[derive(Clone, Copy, PartialEq, Eq, Debug)]
 pub struct Stopped {
     /// Why.
@@ -425,7 +421,7 @@ impl Session {
                 lent.flags.len(),
             )
         };
-        done(number).map_err(|refusal| Stopped { refusal, cell: matches!(refusal, Damage | ListFull).then_some(cell) })
+        done(number).map_err(|refusal| Stopped { refusal, cell: (refusal == Damage).then_some(cell) })
     }
 
     /// Reports.
@@ -504,7 +500,7 @@ impl Session {
 pub struct Halted {
     /// The refusal.
     pub refusal: Refusal,
-    /// For [`Refusal::Damage`] and [`Refusal::ListFull`]: whether it was A, and the cell.
+    /// For [`Refusal::Damage`]: whether it was A, and the cell.
     pub at: Option<(bool, usize)>,
     /// Hand-overs that were answered with 12 until then.
     pub twelves: usize,
@@ -544,7 +540,7 @@ pub fn exchange(a: &mut Session, b: &mut Session, lent: &mut Lent) -> Result<usi
         )
     };
     let [twelves, switch, cell] = told;
-    let at = |refusal| matches!(refusal, Damage | ListFull).then_some((switch == 1, cell));
+    let at = |refusal| (refusal == Damage).then_some((switch == 1, cell));
     done(number).map(|()| twelves).map_err(|refusal| Halted { refusal, at: at(refusal), twelves })
 }
 

@@ -207,5 +207,6 @@ fn printing_writes_the_program_s_lines() {
 fn numbers_are_document_01_s() {
     assert_eq!([Refusal::Length, Refusal::NotSession, Refusal::Room].map(Refusal::number), [1, 8, 16]);
     assert_eq!([0, 1, 16].map(Refusal::of), [None, Some(Refusal::Length), Some(Refusal::Room)]);
-    assert_eq!([17, u32::MAX].map(Refusal::of), [Some(Refusal::Unknown); 2]);
+    assert_eq!([12, 14].map(Refusal::of), [Some(Refusal::TooMany), Some(Refusal::Damage)]);
+    assert_eq!([13, 17, u32::MAX].map(Refusal::of), [Some(Refusal::Unknown); 3]);
 }

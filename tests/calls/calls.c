@@ -359,7 +359,7 @@ static void exchange(struct session *a, struct session *b) {
         elderflute_exchange(in(a->numbers), in(a->listed), in(b->numbers), in(b->listed), told, MEMORY(&both));
     part(&both, &a->memory, &b->memory);
     printf("%u", (unsigned)number);
-    if (number == 0 || number == 13 || number == 14) {
+    if (number == 0 || number == 14) {
         if (number)
             printf(" %c %zu", told[ELDERFLUTE_SWITCH] == 1 ? 'A' : 'B', told[ELDERFLUTE_CELL]);
         printf(" %zu %zu %zu", told[ELDERFLUTE_TWELVES], *listed_in(a), *listed_in(b));

@@ -1,4 +1,7 @@
-/* Prints the words of every number and of one that no version knows, and the version: what rust/src/lib.rs must say too. */
+/*
+ * Prints the words of every number up to the last, of 13 too, which is none, and of one that no version knows, and the version: what rust/src/lib.rs
+ * must say too.
+ */
 #include <stdio.h>
 
 #include "elderflute.h"

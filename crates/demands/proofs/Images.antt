@@ -1,4 +1,4 @@
--- What users are told of any image that is read, clean, damaged or made up: 13 is never answered, and without hand-overs no count stays unknown.
+-- What users are told of any image that is read, clean, damaged or made up: it opens to a session, and without hand-overs no count stays unknown.
 use mathlib.Core.Path.{_≡_, refl, sym, ap, ap₂, _∙_}
 use mathlib.Core.List.{List, []}
 use Prim.Native.Nat.{ℕ}
@@ -14,25 +14,18 @@ use Rattle.reading.specs.declared.Reading.the-variants.{Image}
 use Rattle.image.proofs.Back.{read-only}
 use Rattle.image.proofs.Blocks.{length-image}
 use Rattle.session.specs.Calls.{settleOf, settleNumber}
-use Rattle.theory.specs.Session.{unknownsOf, opened, Stop, settled, listFull, damage, stopNumber}
-use Rattle.theory.specs.HandOver.{Switch, Call, settling, calls, settleAt}
-use Rattle.theory.proofs.Demands.{calls-never-13}
+use Rattle.theory.specs.Session.{unknownsOf, opened, Stop, settled, damage, stopNumber}
+use Rattle.theory.specs.HandOver.{Switch, settling, settleAt}
 use Rattle.theory.proofs.Alone.{alone-known}
 use Rattle.meaning.specs.View.{tableOf, switchOf}
-use Rattle.demands.specs.Calls.{Live, callOn, callsOn, KeysFit, viewed, switchAt, Passing}
-use Rattle.demands.proofs.Steps.{calls-follow, settle-follows, settle-number}
+use Rattle.demands.specs.Calls.{Live, callOn, viewed, switchAt, Passing}
+use Rattle.demands.proofs.Steps.{settle-follows, settle-number}
 use Rattle.demands.proofs.Opened.{opened-viewed, opened-switch}
 use Rattle.demands.proofs.Received.{openedLive, opened-passing}
 
--- 01's numbers name how settling ended
-number-13 : (a : Stop) → stopNumber a ≡ 13 → (c : ℕ) × (a ≡ listFull c)
-number-13 settled e = absurd (omega arith)
-number-13 (listFull c) e = (c, refl)
-number-13 (damage c) e = absurd (omega arith)
-
+-- 01's number 0 says that settling went through
 number-0 : (a : Stop) → stopNumber a ≡ 0 → a ≡ settled
 number-0 settled e = refl
-number-0 (listFull c) e = absurd (omega arith)
 number-0 (damage c) e = absurd (omega arith)
 
 module _ (l : Layout) (lays : Lays l) (image : List ℕ) (bytes : Bytes image) (slot : ℕ) (z : Sizes) (salt : ℕ) (e : readOf l image slot ≡ Image z salt) where
@@ -55,16 +48,6 @@ module _ (l : Layout) (lays : Lays l) (image : List ℕ) (bytes : Bytes image) (
 
   image-switch : switchAt l v ≡ w
   image-switch = opened-switch l z lays image (sealable .cells-length) salt slot
-
-  -- Theorem: no settling after any calls is answered with 13
-  pub never-13 : (later : List Call) → KeysFit l later → let u = callsOn l later v in settleNumber (settleOf l (u .numbers) (u .room) .answer) ≡ 13 → ⊥
-  never-13 later fits n =
-      let f = calls-follow l later fits v image-passing in
-      let seen = f .seen-as ∙ ap₂ (λ s t. calls s later t) image-switch image-viewed in
-      let same = settle-number l (callsOn l later v) (f .passing)
-      ∙ ap₂ (λ s t. stopNumber (settleAt s t .stop)) (f .same-switch ∙ image-switch) seen in
-      let full = number-13 (settleAt w (calls w later (opened (tableOf l z (cellsIn l z image)))) .stop) (sym same ∙ n) in
-      calls-never-13 w (tableOf l z (cellsIn l z image)) later (full .0) (full .1)
 
   -- Theorem: settled with answer 0 and no hand-over, every listed flow is counted
   pub alone-counted : settleNumber (settleOf l (v .numbers) (v .room) .answer) ≡ 0 → unknownsOf (viewed l (callOn l settling v) .list) ≡ []

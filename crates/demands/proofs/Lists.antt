@@ -11,10 +11,10 @@ use Rattle.layout.specs.declared.Layout.{Layout}
 use Rattle.layout.specs.declared.Sizes.{Sizes}
 use Rattle.layout.specs.Sizes.{tableCells}
 use Rattle.filter.specs.Filter.{isNew}
-use Rattle.list.specs.Records.{Records, isListed}
+use Rattle.list.specs.Records.{Records, isListed, handedIn}
 use Rattle.table.specs.Table.{Tab, hasEmpty}
 use Rattle.peeling.specs.Peel.{listedAt}
-use Rattle.test8.specs.Test8.{isSession, handedIn}
+use Rattle.test8.specs.Test8.{isSession}
 use Rattle.settling.specs.Settle.{settleOf}
 use Rattle.handing.specs.declared.Handed.{Handed}
 use Rattle.handing.specs.declared.Handed.the-variants.{Taken, NotInFilter, Listed, EmptyCell, TooMany}

@@ -27,11 +27,11 @@ use Rattle.reading.specs.First.{FirstBad}
 use Rattle.reading.proofs.First.{first-bad-named}
 use Rattle.reading.specs.declared.Reading.{Reading}
 use Rattle.reading.specs.declared.Reading.the-variants.{Image, Length, Check, Form, Mixed, Stale}
-use Rattle.list.specs.Records.{isListed}
+use Rattle.list.specs.Records.{isListed, handedIn}
 use Rattle.table.specs.Table.{hasEmpty}
 use Rattle.peeling.specs.declared.Stop.{Stop}
 use Rattle.peeling.specs.declared.Stop.the-variants as stop
-use Rattle.test8.specs.Test8.{isSession, handedIn}
+use Rattle.test8.specs.Test8.{isSession}
 use Rattle.room.specs.declared.Session.{Session}
 use Rattle.room.specs.Memory.{Memory, roomFits}
 use Rattle.room.specs.Test.{tested}
@@ -239,16 +239,14 @@ module _ (l : Layout) (s : Session) (m : Memory) where
             unfolding handOver tested handOf answerOf afterAnswer
             hand-12 e f = rw (sizes, room, session, inside, unlisted, e, f) (refl, refl)
 
--- ---- settle: 13 and 14, on a session that passes the test: number and cell are those at which the theory's settling stops
+-- ---- settle: 14, on a session that passes the test: number and cell are those at which the theory's settling stops
 abbrev pub stopReturns : theory.Stop → Returned
 stopReturns theory.settled = only 0
-stopReturns (theory.listFull c) = withCell 13 c
 stopReturns (theory.damage c) = withCell 14 c
 
 module _ (l : Layout) (v : Live) (p : Passing l v) where
   stop-is : (a : Stop) → settleReturns (settleAnswer a) ≡ stopReturns (stopOf a)
   stop-is (stop.Done n) = refl
-  stop-is (stop.Full n c) = refl
   stop-is (stop.Damaged n c) = refl
 
   pub settle-returns : settleReturns (settleOf l (v .numbers) (v .room) .answer) ≡ stopReturns (settleAt (switchAt l v) (viewed l v) .stop)

@@ -12,7 +12,7 @@ use Rattle.laws.proofs.Lowest.{number-rest}
 use Rattle.layout.specs.declared.Layout.{Layout}
 use Rattle.layout.specs.Sizes.{tableCells}
 use Rattle.list.specs.Records.{Records, isKnown}
-use Rattle.test8.specs.Test8.{openIn}
+use Rattle.table.specs.Table.{openIn}
 use Rattle.summary.specs.Report.{countedIn, stateOf, reportOf}
 use Rattle.session.specs.Calls.{reportOn}
 use Rattle.session.proofs.Laws.{report-passes}

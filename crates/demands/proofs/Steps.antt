@@ -72,7 +72,6 @@ module _ (l : Layout) (v : Live) (p : Passing l v) where
 
   listed-after : (a : Stop) → afterSettle s (settleAnswer a) ≡ withListed s (listedAt a)
   listed-after (stop.Done n) = refl
-  listed-after (stop.Full n c) = refl
   listed-after (stop.Damaged n c) = refl
 
   settle-live : callOn l theory.settling v
@@ -87,7 +86,6 @@ module _ (l : Layout) (v : Live) (p : Passing l v) where
 
   stop-number : (a : Stop) → settleNumber (settleAnswer a) ≡ stopNumber (stopOf a)
   stop-number (stop.Done n) = refl
-  stop-number (stop.Full n c) = refl
   stop-number (stop.Damaged n c) = refl
 
   pub settle-number : settleNumber (settleOf l s m .answer) ≡ stopNumber (theory.settleAt (switchAt l v) (viewed l v) .stop)

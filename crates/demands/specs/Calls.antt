@@ -46,7 +46,6 @@ afterHand s over.BadRoom = s
 
 abbrev pub afterSettle : Session → Settled → Session
 afterSettle s (settled.Done n) = withListed s n
-afterSettle s (settled.Full n c) = withListed s n
 afterSettle s (settled.Damaged n c) = withListed s n
 afterSettle s settled.NotSession = s
 afterSettle s settled.BadRoom = s

@@ -33,12 +33,10 @@ valuesOf r = r .twelves ∷ r .switch ∷ r .cell ∷ []
 abbrev pub began : Exchanged → ℕ → ℕ → ExchangeLeft
 began x a b = exchangeLeft (exchangeReturns x .number) a b (valuesOf (exchangeReturns x))
 
--- 8, 15 and 16 keep all numbers; 13 and 14 name a switch and a cell, and the earlier steps stand
+-- 8, 15 and 16 keep all numbers; 14 names a switch and a cell, and the earlier steps stand
 abbrev pub exchangeLeaves : Exchanged → ℕ → ℕ → List ℕ → ExchangeLeft
 exchangeLeaves (exchanged.Done a b n) x y told = began (exchanged.Done a b n) a b
-exchangeLeaves (exchanged.FullA c a b n) x y told = began (exchanged.FullA c a b n) a b
 exchangeLeaves (exchanged.DamagedA c a b n) x y told = began (exchanged.DamagedA c a b n) a b
-exchangeLeaves (exchanged.FullB c a b n) x y told = began (exchanged.FullB c a b n) a b
 exchangeLeaves (exchanged.DamagedB c a b n) x y told = began (exchanged.DamagedB c a b n) a b
 exchangeLeaves exchanged.NotSession x y told = exchangeLeft (exchangeNumber exchanged.NotSession) x y told
 exchangeLeaves exchanged.BadRoom x y told = exchangeLeft (exchangeNumber exchanged.BadRoom) x y told

@@ -65,10 +65,9 @@ pub record Settling : Type 0 where
 abbrev pub settling : SettleLeft → Memory → Settling
 settling left room = record { left = left; room = room }
 
--- 8 and 16 keep both numbers; 13 and 14 name a cell, and the earlier steps stand
+-- 8 and 16 keep both numbers; 14 names a cell, and the earlier steps stand
 abbrev pub settleLeaves : Settled → ℕ → ℕ → SettleLeft
 settleLeaves (settled.Done n) listed cell = settleLeft (settleNumber (settled.Done n)) n cell
-settleLeaves (settled.Full n c) listed cell = settleLeft (settleNumber (settled.Full n c)) n c
 settleLeaves (settled.Damaged n c) listed cell = settleLeft (settleNumber (settled.Damaged n c)) n c
 settleLeaves settled.NotSession listed cell = settleLeft (settleNumber settled.NotSession) listed cell
 settleLeaves settled.BadRoom listed cell = settleLeft (settleNumber settled.BadRoom) listed cell

@@ -376,11 +376,6 @@ fn put_settled(a: Settled, listed: &mut usize, cell: &mut usize) -> u32
             *listed = n;
             0
         }
-        Settled::Full { listed: n, cell: c } => {
-            *listed = n;
-            *cell = c;
-            13
-        }
         Settled::Damaged { listed: n, cell: c } => {
             *listed = n;
             *cell = c;
@@ -444,17 +439,6 @@ fn put_exchanged(x: Exchanged, listed: &mut usize, beside: &mut usize, told: &mu
             *told = [twelves, 0, 0];
             0
         }
-        Exchanged::FullA {
-            cell,
-            a,
-            b,
-            twelves,
-        } => {
-            *listed = a;
-            *beside = b;
-            *told = [twelves, 1, cell];
-            13
-        }
         Exchanged::DamagedA {
             cell,
             a,
@@ -465,17 +449,6 @@ fn put_exchanged(x: Exchanged, listed: &mut usize, beside: &mut usize, told: &mu
             *beside = b;
             *told = [twelves, 1, cell];
             14
-        }
-        Exchanged::FullB {
-            cell,
-            a,
-            b,
-            twelves,
-        } => {
-            *listed = a;
-            *beside = b;
-            *told = [twelves, 2, cell];
-            13
         }
         Exchanged::DamagedB {
             cell,

@@ -14,12 +14,10 @@ use Rattle.ending.specs.Over.{isOver}
 use Rattle.ending.proofs.Ending as ending
 
 module _ (a b a′ b′ : ℕ) where
-  pub over-stopped : (x : Ending) → OneOf (1 ∷ 2 ∷ 3 ∷ 4 ∷ []) (tagOf ending.the-type x) → true ≡ isOver a b a′ b′ x
+  pub over-stopped : (x : Ending) → OneOf (1 ∷ 2 ∷ []) (tagOf ending.the-type x) → true ≡ isOver a b a′ b′ x
   unfolding isOver
-  over-stopped end.Settled h = absurd (⊎-elim (λ e. omega arith) (⊎-elim (λ e. omega arith) (⊎-elim (λ e. omega arith) (λ e. omega arith))) h)
-  over-stopped (end.FullA c) h = refl
+  over-stopped end.Settled h = absurd (⊎-elim (λ e. omega arith) (λ e. omega arith) h)
   over-stopped (end.DamagedA c) h = refl
-  over-stopped (end.FullB c) h = refl
   over-stopped (end.DamagedB c) h = refl
 
   pub over-grown : {x : Ending} → x ≡ end.Settled → eqb a′ a ≡ false → false ≡ isOver a b a′ b′ x

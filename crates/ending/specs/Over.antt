@@ -8,23 +8,19 @@ use Rattle.ending.specs.declared.Round.{Round}
 use Rattle.ending.specs.declared.Ending.{Ending}
 use Rattle.ending.specs.declared.Ending.the-variants as end
 
--- 01 'A session', Exchange: "A 13 or 14 ends it and names the switch and the cell"
+-- 01 'A session', Exchange: "A 13 or 14 ends it and names the switch and the cell"; 02 l takes out 13
 abbrev pub endingA : Stop → Ending
 endingA (stop.Done n) = end.Settled
-endingA (stop.Full n c) = end.FullA c
 endingA (stop.Damaged n c) = end.DamagedA c
 
 abbrev pub endingB : Stop → Ending
 endingB (stop.Done n) = end.Settled
-endingB (stop.Full n c) = end.FullB c
 endingB (stop.Damaged n c) = end.DamagedB c
 
--- a 13 or 14 ends it, and a round in which neither list grew: so many flows were listed before it, and so many are after it
+-- a 14 ends it, and a round in which neither list grew: so many flows were listed before it, and so many are after it
 unfoldable pub isOver : ℕ → ℕ → ℕ → ℕ → Ending → Bool
 isOver a b a′ b′ end.Settled = eqb a′ a && eqb b′ b
-isOver a b a′ b′ (end.FullA c) = true
 isOver a b a′ b′ (end.DamagedA c) = true
-isOver a b a′ b′ (end.FullB c) = true
 isOver a b a′ b′ (end.DamagedB c) = true
 
 -- the numbers that a function over both sessions answers

@@ -4,12 +4,10 @@ ghost use Rattle.peeling.specs.Peel.{listedAt};
 ghost use Rattle.ending.specs.Over.{endingA, endingB, roundOf, isOver};
 use peeling::Stop;
 
-// How the settlings of both sessions ended: a 13 or 14 with the marked or ready cell.
+// How the settlings of both sessions ended: a 14 with the marked or ready cell.
 pub enum Ending {
     Settled,
-    FullA(usize),
     DamagedA(usize),
-    FullB(usize),
     DamagedB(usize),
 }
 
@@ -32,12 +30,6 @@ pub fn after_a(s: Stop, b: usize, twelves: usize) -> Round
             twelves,
             ending: Ending::Settled,
         },
-        Stop::Full { listed, cell } => Round {
-            a: listed,
-            b,
-            twelves,
-            ending: Ending::FullA(cell),
-        },
         Stop::Damaged { listed, cell } => Round {
             a: listed,
             b,
@@ -57,12 +49,6 @@ pub fn after_b(a: usize, s: Stop, twelves: usize) -> Round
             twelves,
             ending: Ending::Settled,
         },
-        Stop::Full { listed, cell } => Round {
-            a,
-            b: listed,
-            twelves,
-            ending: Ending::FullB(cell),
-        },
         Stop::Damaged { listed, cell } => Round {
             a,
             b: listed,
@@ -72,7 +58,7 @@ pub fn after_b(a: usize, s: Stop, twelves: usize) -> Round
     }
 }
 
-// Whether it is over after a round: a 13 or 14 ends it, and a round in which neither list grew.
+// Whether it is over after a round: a 14 ends it, and a round in which neither list grew.
 pub fn is_over(a: usize, b: usize, r: Round) -> bool
     ensures { λ x. ⌜ x ≡ isOver a b (r .a) (r .b) (r .ending) ⌝ }
 {

@@ -13,10 +13,11 @@ use Rattle.layout.specs.declared.Sizes.{Sizes}
 use Rattle.layout.specs.Sizes.{Lays, Ranged}
 use Rattle.layout.proofs.Ranges.{ranged, table-high}
 use Rattle.list.specs.Records.{Records}
+use Rattle.marks.specs.Marks.{Words}
 use Rattle.table.specs.Table.{Tab}
 use Rattle.index.proofs.Index.{empty-zeros}
 use Rattle.test8.proofs.Answers as test8
-use Rattle.test8.proofs.Passed.{listed-few}
+use Rattle.test8.proofs.Passed.{listed-few, passed-bounded}
 use Rattle.test8.proofs.Notes.{length-seen, seen-covers}
 use Rattle.room.specs.declared.Session.{Session}
 use Rattle.room.specs.Memory.{Memory, memory, Rooms}
@@ -32,7 +33,7 @@ use Rattle.exchange.specs.declared.Exchanged.the-variants as exchanged
 use Rattle.exchange.specs.declared.Tested.{Tested}
 use Rattle.exchange.specs.declared.Tested.the-variants as tested
 use Rattle.rounds.proofs.Both.{first-laid, second-laid, first-between, second-between}
-use Rattle.exchange.proofs.Rooms.{FullRoom, areas-full, areas-rooms}
+use Rattle.exchange.proofs.Rooms.{FullRoom, areas-full, areas-rooms, words-a, words-b}
 use Rattle.exchange.proofs.Tests.{testOf, Passing}
 
 -- ---- lengths
@@ -167,16 +168,21 @@ module _ (l : Layout) (s t : Session) (m : Memory) where
   kept-15 e f = refused e f
 
 -- a session that passes the test stands in its room
-side-stands : (l : Layout) (s : Session) (a : Memory) → Rooms l (s .sizes) a → testOf l s a ≡ true → Stands l (switchOf s) (sideOf l s a)
-side-stands l s a r h =
-    let few = listed-few l (s .sizes) (s .salt) (s .listed) (a .table) (a .list) (test8.passed l (s .sizes) (s .salt) (s .listed) (a .table) (a .list) h) in
+side-stands : (l : Layout) (s : Session) (a : Memory) → Rooms l (s .sizes) a → Words (a .table .marks) → testOf l s a ≡ true
+    → Stands l (switchOf s) (sideOf l s a)
+side-stands l s a r words h =
+    let whole = test8.passed l (s .sizes) (s .salt) (s .listed) (a .table) (a .list) h in
+    let few = listed-few l (s .sizes) (s .salt) (s .listed) (a .table) (a .list) whole in
     record {
-      fits = record {
-        table = r .table;
-        room = r .room;
-        listed = few;
-        covers = seen-covers l (s .sizes) (s .salt) (a .list .keys) (replicate 11264 0) (s .listed)
-            (omega (arith, few, table-high l (s .sizes) (r .table .lays) (r .table .ranged))) empty-zeros;
+      steady = record {
+        fits = record {
+          table = r .table;
+          room = r .room;
+          listed = few;
+          covers = seen-covers l (s .sizes) (s .salt) (a .list .keys) (replicate 11264 0) (s .listed)
+              (omega (arith, few, table-high l (s .sizes) (r .table .lays) (r .table .ranged))) empty-zeros;
+        };
+        bounded = passed-bounded l (s .sizes) (s .salt) (s .listed) (a .table) (a .list) whole words;
       };
       packets-fit = r .packets-fit;
     }
@@ -231,13 +237,13 @@ module _ (l : Layout) (s t : Session) (m : Memory) (lays : Lays l) (h : Passing 
   pub filter-full : length (m .filter) ≡ e .filter
   filter-full = full .filter-full
 
-  pub call-both : Both l s t p e (s .listed) (t .listed) w
-  call-both =
+  pub call-both : Words (m .table .marks) → Both l s t p e (s .listed) (t .listed) w
+  call-both words =
       let n = ends p m e full l (s .sizes) (t .sizes) seen lays (ranged (s .sizes) (h .ranged-a)) (ranged (t .sizes) (h .ranged-b)) pi next long in
       record {
         ends = n;
-        stands-a = subst (Stands l (switchOf s)) (sym part-a-is) (side-stands l s a (rooms .0) (h .session-a));
-        stands-b = subst (Stands l (switchOf t)) (sym part-b-is) (side-stands l t b (rooms .1) (h .session-b));
+        stands-a = subst (Stands l (switchOf s)) (sym part-a-is) (side-stands l s a (rooms .0) (words-a (seam l (s .sizes)) m words) (h .session-a));
+        stands-b = subst (Stands l (switchOf t)) (sym part-b-is) (side-stands l t b (rooms .1) (words-b (seam l (s .sizes)) m words) (h .session-b));
       }
 
   -- what is left is what the definition says

@@ -1,16 +1,19 @@
 -- The room that is lent for two sessions: its lengths as facts, and the room of each in it.
 use mathlib.Core.Path.{_≡_, ap₂, _∙_}
 use mathlib.Core.Bool.{true, _&&_}
-use Prim.Native.Nat.{_+_}
+use Prim.Native.Nat.{_+_, _^_}
 use native.Mathlib.Omega.{arith}
 use borrow.Author.Tests.{eq-eqb, eqb-true}
 use lib.Dec.{eqb}
 use lib.ListN.{length, length-drop, length-append}
+use lib.Pow.{pow-pos}
 use lib.Seq.{length-take-le, take-at, drop-at}
 use Rattle.laws.proofs.Bools.{and-l, and-r}
+use Rattle.laws.proofs.Lists.{below-take, below-drop}
 use Rattle.layout.specs.declared.Layout.{Layout}
 use Rattle.layout.specs.declared.Sizes.{Sizes}
 use Rattle.layout.specs.Sizes.{Lays, Ranged}
+use Rattle.marks.specs.Marks.{Words}
 use Rattle.room.specs.Memory.{Memory, Rooms}
 use Rattle.parts.specs.declared.Place.{Place}
 use Rattle.parts.specs.Areas.{placeAfter}
@@ -237,3 +240,12 @@ module _ (l : Layout) (y : Sizes) (a b : Memory) (r : Rooms l y a) where
 
   pub joined-b : roomB (seam l y) (joined a b) ≡ b
   joined-b = full-joined-b (seam l y) a b (rooms-full l y a r)
+
+-- ---- the words of each are words of both
+pub words-a : (p : Place) (m : Memory) → Words (m .table .marks) → Words (roomA p m .table .marks)
+unfolding roomA
+words-a p m = below-take (2 ^ 64) (p .words) (m .table .marks) (pow-pos 64)
+
+pub words-b : (p : Place) (m : Memory) → Words (m .table .marks) → Words (roomB p m .table .marks)
+unfolding roomB
+words-b p m = below-drop (2 ^ 64) (p .words) (m .table .marks)

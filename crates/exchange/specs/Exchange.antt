@@ -63,9 +63,7 @@ exchanging answer m = record { answer = answer; room = m }
 -- how it ended, with the flows that each then lists and the answers 12
 abbrev pub answerOf : Ending → ℕ → ℕ → ℕ → Exchanged
 answerOf end.Settled a b twelves = exchanged.Done a b twelves
-answerOf (end.FullA c) a b twelves = exchanged.FullA c a b twelves
 answerOf (end.DamagedA c) a b twelves = exchanged.DamagedA c a b twelves
-answerOf (end.FullB c) a b twelves = exchanged.FullB c a b twelves
 answerOf (end.DamagedB c) a b twelves = exchanged.DamagedB c a b twelves
 
 -- a session that passed the test, with each listed key in its index
@@ -110,9 +108,7 @@ exchangeOf l s t m = afterTest l s t m (exchangeTest l s t m)
 -- 01's number and values for each answer
 abbrev pub exchangeReturns : Exchanged → Returned
 exchangeReturns (exchanged.Done a b twelves) = withTwelves 0 twelves
-exchangeReturns (exchanged.FullA c a b twelves) = withSwitch 13 1 c twelves
 exchangeReturns (exchanged.DamagedA c a b twelves) = withSwitch 14 1 c twelves
-exchangeReturns (exchanged.FullB c a b twelves) = withSwitch 13 2 c twelves
 exchangeReturns (exchanged.DamagedB c a b twelves) = withSwitch 14 2 c twelves
 exchangeReturns exchanged.NotSession = only 8
 exchangeReturns exchanged.OtherSlot = only 15

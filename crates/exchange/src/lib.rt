@@ -25,26 +25,14 @@ use layout::Layout;
 use parts::Place;
 use room::Session;
 
-// What an exchange answers: the flows that each session then lists, and how many keys were answered with 12; for 13 and 14 also the cell.
+// What an exchange answers: the flows that each session then lists, and how many keys were answered with 12; for 14 also the cell.
 pub enum Exchanged {
     Done {
         a: usize,
         b: usize,
         twelves: usize,
     },
-    FullA {
-        cell: usize,
-        a: usize,
-        b: usize,
-        twelves: usize,
-    },
     DamagedA {
-        cell: usize,
-        a: usize,
-        b: usize,
-        twelves: usize,
-    },
-    FullB {
         cell: usize,
         a: usize,
         b: usize,
@@ -225,19 +213,7 @@ fn answer_of(r: Round) -> Exchanged
     let twelves = r.twelves;
     match ending {
         Ending::Settled => Exchanged::Done { a, b, twelves },
-        Ending::FullA(cell) => Exchanged::FullA {
-            cell,
-            a,
-            b,
-            twelves,
-        },
         Ending::DamagedA(cell) => Exchanged::DamagedA {
-            cell,
-            a,
-            b,
-            twelves,
-        },
-        Ending::FullB(cell) => Exchanged::FullB {
             cell,
             a,
             b,

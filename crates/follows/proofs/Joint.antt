@@ -71,7 +71,7 @@ module _ (A B : Switch) (F : Counted A) (G : Counted B) (u v : Held) (bytes-u : 
   abbrev there : BothCounted A B F G (joint.pairAfter ipv4Layout (asLive u) (asLive v))
   there = subst (BothCounted A B F G) same ours
 
-  -- Theorem: no 13 or 14 ends it
+  -- Theorem: no 14 ends it
   pub joint-ends : exchangeNumber (exchangeOn u v .answer) ≡ 0
   joint-ends = ap (λ (x : Exchanging). exchangeNumber (x .answer)) follows
       ∙ theorems.joint-ends ipv4Layout A B F G (asLive u) (asLive v) su sv slots there

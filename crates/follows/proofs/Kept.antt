@@ -6,7 +6,7 @@ use Prim.Native.Nat.{ℕ, zero, suc, _+_, _*_, _<_}
 use native.Mathlib.Decide.{ℕ-discrete}
 use native.Mathlib.Omega.{arith}
 use lib.Bits.{bitOr, or-lt}
-use lib.Dec.{ltb, leb}
+use lib.Dec.{ltb}
 use lib.ListN.{length, getD, set, drop, length-set, length-replicate}
 use lib.Seq.{length-sets, getD-set-same, getD-set-other}
 use Rattle.laws.specs.BigEndian.{Bytes}
@@ -118,12 +118,9 @@ module _ (m : ℕ) (z : Sizes) (salt : ℕ) where
       let key = keyAt ipv4Layout (t .xors) c in
       let bytes = xor-bytes (t .xors) c (h .0) in
       elim (split (ltb c (tableCells ipv4Layout z))) [
-        | inl p ↦ elim (split (leb (2 * tableCells ipv4Layout z) n)) [
-          | inl q ↦ rw (p, q) h
-          | inr q ↦ elim (split (peeling.peelDamaged ipv4Layout z salt n (t .flows) (rs .keys) key)) [
-            | inl d ↦ rw (p, q, d) h
-            | inr d ↦ rw (p, q, d) (taken-bytes z salt key n t bytes (h .0), sound-appended m n key 0 rs bytes (omega arith) (h .1))
-          ]
+        | inl p ↦ elim (split (peeling.peelDamaged ipv4Layout z salt n (t .flows) (rs .keys) key)) [
+          | inl d ↦ rw (p, d) h
+          | inr d ↦ rw (p, d) (taken-bytes z salt key n t bytes (h .0), sound-appended m n key 0 rs bytes (omega arith) (h .1))
         ]
         | inr p ↦ rw p h
       ]
@@ -134,7 +131,6 @@ module _ (m : ℕ) (z : Sizes) (salt : ℕ) where
   unfolding peeling.afterPeel
   after-keeps n more peel.Next t rs seen k h = k t rs seen h
   after-keeps n more peel.Quiet t rs seen k h = h
-  after-keeps n more (peel.Full c) t rs seen k h = h
   after-keeps n more (peel.Damaged c) t rs seen k h = h
 
   peels-keep : (k n : ℕ) (t : Tab) (rs : Records) (seen : List ℕ) → Keeps t rs
@@ -175,7 +171,6 @@ module _ (m : ℕ) (z : Sizes) (salt : ℕ) where
       → Keeps (settling.thenCounts ipv4Layout z salt packets t rs seen s .table) (settling.thenCounts ipv4Layout z salt packets t rs seen s .list)
   unfolding settling.thenCounts settling.afterCounts counting.countsOf
   then-keeps packets t rs seen (stop.Done n) h = (h .0, counts-keep n n (t .flows) _ rs (h .1))
-  then-keeps packets t rs seen (stop.Full n c) h = h
   then-keeps packets t rs seen (stop.Damaged n c) h = h
 
   pub settled-keeps : (n : ℕ) (t : Tab) (packets : List ℕ) (rs : Records) (seen : List ℕ) → Keeps t rs

@@ -1,16 +1,14 @@
 -- What an exchange leaves of two sessions is what lists can be, and FlowXOR stays bytes.
 use mathlib.Core.Logic.{inl, inr}
 use mathlib.Core.List.{List}
-use Prim.Native.Nat.{ℕ, zero, suc, _+_}
-use lib.Dec.{leb}
+use Prim.Native.Nat.{ℕ, zero, suc}
 use Rattle.laws.specs.BigEndian.{Bytes}
 use Rattle.laws.proofs.Bools.{split}
 use Rattle.laws.proofs.Upto.{each-keeps}
-use Rattle.layout.specs.Sizes.{ipv4Layout, tableCells}
+use Rattle.layout.specs.Sizes.{ipv4Layout}
 use Rattle.list.specs.Records.{keyAt}
 use Rattle.peeling.specs.declared.Stop.{Stop}
 use Rattle.peeling.specs.declared.Stop.the-variants as stop
-use Rattle.test8.specs.Test8.{handedIn}
 use Rattle.parts.specs.Sides.{Switch, Side, settleSide, Given, given, handAt, handKeys, handList}
 use Rattle.ending.specs.declared.Ending.{Ending}
 use Rattle.ending.specs.declared.Ending.the-variants as end
@@ -19,36 +17,31 @@ use Rattle.ending.specs.Over.{isOver}
 use Rattle.follows.proofs.Kept.{Keep, xor-bytes, settled-keeps, handed-keeps}
 
 -- one session, whose list has room for m records
-abbrev Kept : ℕ → Side → Type 0
-Kept m s = Keep m (s .table) (s .list)
+abbrev SideKept : ℕ → Side → Type 0
+SideKept m s = Keep m (s .table) (s .list)
 
 module _ (m : ℕ) (w : Switch) where
-  side-settled : (s : Side) → Kept m s → Kept m (settleSide ipv4Layout w s .left)
+  side-settled : (s : Side) → SideKept m s → SideKept m (settleSide ipv4Layout w s .left)
   unfolding settleSide
   side-settled s h = settled-keeps m (w .sizes) (w .salt) (s .listed) (s .table) (s .packets) (s .list) (s .seen) h
 
   abbrev GivenKept : Given → Type 0
   GivenKept g = Keep m (g .table) (g .list)
 
-  side-handed : (filter keys : List ℕ) (k : ℕ) (s : Side) → Bytes keys → Kept m s → GivenKept (handList ipv4Layout w filter keys k s)
+  side-handed : (filter keys : List ℕ) (k : ℕ) (s : Side) → Bytes keys → SideKept m s → GivenKept (handList ipv4Layout w filter keys k s)
   unfolding handList handKeys handAt
   side-handed filter keys k s bytes h =
-      let g = given (s .listed) 0 (s .table) (s .list) (s .seen) in
-      elim (split (leb (s .listed) (handedIn (s .listed) (s .list) + tableCells ipv4Layout (w .sizes)))) [
-        | inl p ↦ rw p (each-keeps GivenKept k (handAt ipv4Layout w filter keys) g h
-            (λ i x l q. handed-keeps m (w .sizes) (w .salt) (x .listed) (keyAt ipv4Layout keys i) filter (x .table) (x .list) (x .seen) (xor-bytes keys i bytes) q))
-        | inr p ↦ rw p h
-      ]
+      each-keeps GivenKept k (handAt ipv4Layout w filter keys) (given (s .listed) 0 (s .table) (s .list) (s .seen)) h
+      (λ i x l q. handed-keeps m (w .sizes) (w .salt) (x .listed) (keyAt ipv4Layout keys i) filter (x .table) (x .list) (x .seen) (xor-bytes keys i bytes) q)
 
 -- both
 module _ (m n : ℕ) (A B : Switch) where
   abbrev BothKept : Pair → Type 0
-  BothKept p = Kept m (p .a) × Kept n (p .b)
+  BothKept p = SideKept m (p .a) × SideKept n (p .b)
 
-  then-kept : (a b : Side) (twelves : ℕ) (s : Stop) → Kept m a → Kept n b → BothKept (thenB ipv4Layout B a b twelves s .pair)
+  then-kept : (a b : Side) (twelves : ℕ) (s : Stop) → SideKept m a → SideKept n b → BothKept (thenB ipv4Layout B a b twelves s .pair)
   unfolding thenB
   then-kept a b twelves (stop.Done k) h q = (h, side-settled n B b q)
-  then-kept a b twelves (stop.Full k c) h q = (h, q)
   then-kept a b twelves (stop.Damaged k c) h q = (h, q)
 
   both-settled : (p : Pair) → BothKept p → BothKept (settleBoth ipv4Layout A B p .pair)
@@ -83,9 +76,7 @@ module _ (m n : ℕ) (A B : Switch) where
     then-rounds : (p : Pair) (o : Ending) → BothKept p → BothKept (thenRounds ipv4Layout A f B g p o .pair)
     unfolding thenRounds
     then-rounds p end.Settled h = rounds-kept (mostRounds ipv4Layout A B) p h
-    then-rounds p (end.FullA c) h = h
     then-rounds p (end.DamagedA c) h = h
-    then-rounds p (end.FullB c) h = h
     then-rounds p (end.DamagedB c) h = h
 
     pub exchange-kept : (p : Pair) → BothKept p → BothKept (exchangeSides ipv4Layout A f B g p .pair)

@@ -16,12 +16,12 @@ use Rattle.layout.specs.Sizes.{Ranged, tableCells}
 use Rattle.hash.specs.Places.{cellOf, bitsOf}
 use Rattle.filter.specs.Filter.{anyClear, isNew}
 use Rattle.filter.proofs.Held.{clear-new}
-use Rattle.list.specs.Records.{Records, isListed, appended}
+use Rattle.list.specs.Records.{Records, isListed, appended, handedIn}
 use Rattle.index.specs.Index.{linked}
 use Rattle.table.specs.Table.{Tab, anyEmpty, hasEmpty, takenOut}
 use Rattle.found.specs.Seen.{bucket, bucketOf}
 use Rattle.table.proofs.Table.{empty-is}
-use Rattle.test8.specs.Test8.{handedIn}
+use Rattle.table.proofs.Bounds.{room-for-hand}
 use Rattle.handing.specs.Hand.{answerOf, handing, afterAnswer, handOf, handNumber, Hands}
 use Rattle.handing.specs.declared.Handed.{Handed}
 use Rattle.handing.specs.declared.Handed.the-variants.{Taken, NotInFilter, Listed, EmptyCell, TooMany}
@@ -123,4 +123,4 @@ pub taken-room : (l : Layout) (z : Sizes) (salt n handed : ℕ) (key filter : Li
     → n < 2 * tableCells l z
 taken-room l z salt n handed key filter t rs seen h e q =
     let told = taken-told l z salt n handed filter (t .flows) (rs .keys) key (sym e ∙ q) in
-    omega (arith, told .3, h .room)
+    room-for-hand l z salt n t rs (h .steady .bounded) (omega (arith, told .3, h .handed-is))

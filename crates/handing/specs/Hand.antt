@@ -2,19 +2,18 @@
 use mathlib.Core.Bool.{true, cond}
 use mathlib.Core.List.{List}
 use mathlib.Core.Path.{_≡_}
-use Prim.Native.Nat.{ℕ, _+_, _≤_}
+use Prim.Native.Nat.{ℕ}
 use lib.Dec.{leb}
 use lib.ListN.{length}
 use Rattle.layout.specs.declared.Layout.{Layout}
 use Rattle.layout.specs.declared.Sizes.{Sizes}
 use Rattle.layout.specs.Sizes.{tableCells, filterBytes}
 use Rattle.filter.specs.Filter.{isNew}
-use Rattle.list.specs.Records.{Records, isListed, appended}
+use Rattle.list.specs.Records.{Records, isListed, appended, handedIn}
 use Rattle.index.specs.Index.{linked}
 use Rattle.table.specs.Table.{Tab, hasEmpty, takenOut}
 use Rattle.found.specs.Seen.{bucketOf}
-use Rattle.peeling.specs.Peel.{Fits}
-use Rattle.test8.specs.Test8.{handedIn}
+use Rattle.peeling.specs.Peel.{Steady}
 use Rattle.handing.specs.declared.Handed.{Handed}
 use Rattle.handing.specs.declared.Handed.the-variants.{Taken, NotInFilter, Listed, EmptyCell, TooMany}
 
@@ -58,14 +57,13 @@ handNumber Listed = 10
 handNumber EmptyCell = 11
 handNumber TooMany = 12
 
--- what a hand-over needs: the session's room and index; the filter's length; the number handed over; and room for one more record
--- while fewer than N were handed over, as the test of 8 has it
+-- what a hand-over needs: a session with marks and numbers as the test of 8 has them, so that there is room for one more record while fewer
+-- than N were handed over; the filter's length; and the number handed over
 pub record Hands (l : Layout) (z : Sizes) (salt n handed : ℕ) (key filter : List ℕ) (t : Tab) (rs : Records) (seen : List ℕ) : Type 0 where
-  pub fits : Fits l z salt n t rs seen
+  pub steady : Steady l z salt n t rs seen
   pub filter-fits : length filter ≡ filterBytes z
   pub key-fits : length key ≡ l .key
   pub handed-is : handed ≡ handedIn n rs
-  pub room : n ≤ handed + tableCells l z
 
 -- how many flows more are listed after it
 abbrev pub takenBy : Handed → ℕ

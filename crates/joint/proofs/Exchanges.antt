@@ -27,23 +27,17 @@ use Rattle.joint.proofs.Pairs.{EndShows, endingAs, exchange-shows}
 -- the numbers of an answer
 answer-a : (o : Ending) (a b t n : ℕ) → listedA (answerOf o a b t) n ≡ a
 answer-a end.Settled a b t n = refl
-answer-a (end.FullA c) a b t n = refl
 answer-a (end.DamagedA c) a b t n = refl
-answer-a (end.FullB c) a b t n = refl
 answer-a (end.DamagedB c) a b t n = refl
 
 answer-b : (o : Ending) (a b t n : ℕ) → listedB (answerOf o a b t) n ≡ b
 answer-b end.Settled a b t n = refl
-answer-b (end.FullA c) a b t n = refl
 answer-b (end.DamagedA c) a b t n = refl
-answer-b (end.FullB c) a b t n = refl
 answer-b (end.DamagedB c) a b t n = refl
 
 answer-twelves : (o : Ending) (a b t : ℕ) → twelvesOf (answerOf o a b t) ≡ t
 answer-twelves end.Settled a b t = refl
-answer-twelves (end.FullA c) a b t = refl
 answer-twelves (end.DamagedA c) a b t = refl
-answer-twelves (end.FullB c) a b t = refl
 answer-twelves (end.DamagedB c) a b t = refl
 
 -- 01's number for the theory's ending
@@ -152,9 +146,7 @@ module _ (l : Layout) (u v : Live) (pu : Passing l u) (pv : Passing l v) (slots 
 
   number-is : (o : Ending) (a b t : ℕ) → exchangeNumber (answerOf o a b t) ≡ endNumber (endingAs l A (u .room .filter) B (v .room .filter) o)
   number-is end.Settled a b t = refl
-  number-is (end.FullA c) a b t = refl
   number-is (end.DamagedA c) a b t = refl
-  number-is (end.FullB c) a b t = refl
   number-is (end.DamagedB c) a b t = refl
 
   -- Theorem: and it answers with the theory's number

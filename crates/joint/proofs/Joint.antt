@@ -74,7 +74,7 @@ module _ (l : Layout) (A B : Switch) (F : Counted A) (G : Counted B) (u v : Live
   abbrev then : BothCounted A B F G (exchange A B (pairBefore l u v) .pair)
   then = subst (BothCounted A B F G) pair-is ours
 
-  -- Theorem: no 13 or 14 ends it
+  -- Theorem: no 14 ends it
   pub joint-ends : exchangeNumber (exchangeOn l u v .answer) ≡ 0
   joint-ends = exchange-number l u v (su .passing) (sv .passing) slots
       ∙ ap₂ (λ a b. endNumber (exchange a b (pairBefore l u v) .ending)) (su .switch-is) (sv .switch-is)

@@ -1,28 +1,25 @@
 -- The exchange on lists is the theory's exchange on what is seen of them.
 use mathlib.Core.Path.{_≡_, refl, sym, ap, subst, _∙_}
-use mathlib.Core.Bool.{true, not, cond, _&&_, _||_}
+use mathlib.Core.Bool.{not, cond, _&&_, _||_}
 use mathlib.Core.List.{List, [], _∷_, _++_}
 use mathlib.Core.Logic.{inl, inr}
 use Prim.Native.Nat.{ℕ, zero, suc, _+_, _*_, _≤_, _<_}
 use native.Mathlib.Omega.{arith}
 use native.Mathlib.Nat.{le-refl}
 use native.Mathlib.Decide.{decLt}
-use borrow.Author.Tests.{eq-eqb, ne-eqb, lt-ltb, le-ltb, le-leb}
-use lib.Dec.{eqb, ltb, leb}
+use borrow.Author.Tests.{eq-eqb, ne-eqb, lt-ltb, le-ltb}
+use lib.Dec.{eqb, ltb}
 use lib.ListN.{length}
 use Rattle.laws.specs.Upto.{listUpto, eachUpto}
 use Rattle.laws.proofs.Bools.{split, and-f}
 use Rattle.laws.proofs.Upto.{length-list}
-use Rattle.laws.proofs.Lowest.{number-rest}
 use Rattle.layout.specs.declared.Layout.{Layout}
 use Rattle.layout.specs.Sizes.{tableCells}
-use Rattle.list.specs.Records.{Records, keyAt, isHanded}
-use Rattle.table.specs.Table.{Tab}
+use Rattle.list.specs.Records.{Records, keyAt}
 use Rattle.peeling.specs.declared.Stop.{Stop}
 use Rattle.peeling.specs.declared.Stop.the-variants as stop
-use Rattle.test8.specs.Test8.{isSession, handedIn, peeledIn}
 use Rattle.test8.proofs.Answers.{passed}
-use Rattle.test8.proofs.Passed.{peeled-few, listed-few}
+use Rattle.test8.proofs.Passed.{listed-few}
 use Rattle.handing.specs.declared.Handed.{Handed}
 use Rattle.handing.specs.declared.Handed.the-variants.{Taken, NotInFilter, Listed, EmptyCell, TooMany}
 use Rattle.handing.specs.Hand.{handOf, handNumber, twelveBy}
@@ -123,13 +120,6 @@ module _ (l : Layout) where
       hands-each zero fits s = record { shows = s; twelves-are = omega arith }
       hands-each (suc m) fits s = hands-one m (eachUpto m (handAt l A f keys) g) (fits m (omega arith)) (hands-each m (λ i h. fits i (omega arith)) s)
 
-    -- a session that passes the test has no more peeled flows than cells
-    peeled-within : (n : ℕ) (t : Tab) (rs : Records) → isSession l (A .sizes) (A .salt) n t rs ≡ true
-        → leb n (handedIn n rs + tableCells l (A .sizes)) ≡ true
-    unfolding handedIn peeledIn
-    peeled-within n t rs p = le-leb n (handedIn n rs + tableCells l (A .sizes))
-        (omega (arith, number-rest n (isHanded rs), peeled-few l (A .sizes) (A .salt) n t rs (passed l (A .sizes) (A .salt) n t rs p)))
-
     record ListHands (xs : List Key) (s : Side) (q : Session) (g : Given) : Type 0 where
       pub shows : SideShows A (withGiven s g) (handAll (at A f) xs q)
       pub twelves-are : g .twelves ≡ twelvesIn (at A f) xs q
@@ -138,10 +128,8 @@ module _ (l : Layout) where
         → ListHands (listUpto m (keyAt l keys)) s q (handList l A f keys m s)
     unfolding handList handKeys
     list-hands keys m fits s q h =
-        let g = given (s .listed) 0 (s .table) (s .list) (s .seen) in
-        rw (peeled-within (s .listed) (s .table) (s .list) (h .passes)) (
-        let e = hands-each (s .packets) keys g q m fits h in
-        record { shows = e .shows; twelves-are = omega (arith, e .twelves-are) })
+        let e = hands-each (s .packets) keys (given (s .listed) 0 (s .table) (s .list) (s .seen)) q m fits h in
+        record { shows = e .shows; twelves-are = omega (arith, e .twelves-are) }
 
   -- ---- both sessions; f and g are the received filters
   module _ (A : sides.Switch) (f : List ℕ) (B : sides.Switch) (g : List ℕ) where
@@ -183,9 +171,7 @@ module _ (l : Layout) where
     -- how it ended, as the theory has it
     abbrev pub endingAs : Ending → exchange.Ending
     endingAs end.Settled = exchange.finished
-    endingAs (end.FullA c) = exchange.stoppedA (theory.listFull c)
     endingAs (end.DamagedA c) = exchange.stoppedA (theory.damage c)
-    endingAs (end.FullB c) = exchange.stoppedB (theory.listFull c)
     endingAs (end.DamagedB c) = exchange.stoppedB (theory.damage c)
 
     pub record EndShows (e : lists.Ended) (r : exchange.Exchanged) : Type 0 where
@@ -196,7 +182,6 @@ module _ (l : Layout) where
     after-b : (a : Side) (s : Session) (b : Side) (t : Session) (m n : ℕ) → m ≡ n → SideShows A a s → SideShows B b t → (o : Stop)
         → EndShows (lists.ended (over.endingB o) (lists.pair a b m)) (exchange.afterB s t n (stopOf o))
     after-b a s b t m n e ha hb (stop.Done i) = record { pair-shows = record { shows-a = ha; shows-b = hb; twelves-are = e }; ends-as = refl }
-    after-b a s b t m n e ha hb (stop.Full i c) = record { pair-shows = record { shows-a = ha; shows-b = hb; twelves-are = e }; ends-as = refl }
     after-b a s b t m n e ha hb (stop.Damaged i c) = record { pair-shows = record { shows-a = ha; shows-b = hb; twelves-are = e }; ends-as = refl }
 
     -- A's settling ended so
@@ -207,7 +192,6 @@ module _ (l : Layout) where
         subst (λ o. EndShows (lists.ended (over.endingB (settleSide l B b .stop)) (lists.pair a (settleSide l B b .left) m))
         (exchange.afterB s (settleAt wB t .state) n o)) (side-stops B g b t hb)
         (after-b a s (settleSide l B b .left) (settleAt wB t .state) m n e ha (side-settles B g b t hb) (settleSide l B b .stop))
-    after-a a s b t m n e ha hb (stop.Full i c) = record { pair-shows = record { shows-a = ha; shows-b = hb; twelves-are = e }; ends-as = refl }
     after-a a s b t m n e ha hb (stop.Damaged i c) = record { pair-shows = record { shows-a = ha; shows-b = hb; twelves-are = e }; ends-as = refl }
 
     both-settle : (p : lists.Pair) (q : exchange.Pair) → PairShows p q → EndShows (lists.settleBoth l A B p) (exchange.settleBoth wA wB q)
@@ -236,7 +220,6 @@ module _ (l : Layout) where
 
     b-longer : (s t : Session) (n : ℕ) (o : theory.Stop) → (exchange.afterB s t n o .pair .a ≡ s) × (exchange.afterB s t n o .pair .b ≡ t)
     b-longer s t n theory.settled = (refl, refl)
-    b-longer s t n (theory.listFull c) = (refl, refl)
     b-longer s t n (theory.damage c) = (refl, refl)
 
     a-longer : (s t : Session) (n : ℕ) (o : theory.Stop) → let r = exchange.afterA wB s t n o in
@@ -244,7 +227,6 @@ module _ (l : Layout) where
     a-longer s t n theory.settled =
         let b = b-longer s (settleAt wB t .state) n (settleAt wB t .stop) in
         (rw (b .0) (le-refl _), rw (b .1) (settle-longer wB t))
-    a-longer s t n (theory.listFull c) = (le-refl _, le-refl _)
     a-longer s t n (theory.damage c) = (le-refl _, le-refl _)
 
     round-longer : (q : exchange.Pair) → Longer q (exchange.round wA wB q .pair)
@@ -296,9 +278,7 @@ module _ (l : Layout) where
           | inl y ↦ rw y (later (r .pair) (u .pair) (k .pair-shows))
           | inr y ↦ rw y k
         ])
-    goes-on more go later p q h r u k longer (end.FullA c) e = k
     goes-on more go later p q h r u k longer (end.DamagedA c) e = k
-    goes-on more go later p q h r u k longer (end.FullB c) e = k
     goes-on more go later p q h r u k longer (end.DamagedB c) e = k
 
     all-rounds : (m : ℕ) → Rounds (lists.rounds m l A f B g) (exchange.rounds wA wB m)
@@ -315,9 +295,7 @@ module _ (l : Layout) where
         → EndShows (lists.thenRounds l A f B g (r .pair) o) (exchange.thenRounds wA wB (2 * wA .size + 2 * wB .size + 1) u (endingAs o))
     unfolding lists.thenRounds exchange.thenRounds
     then-rounds r u k end.Settled e = all-rounds (lists.mostRounds l A B) (r .pair) (u .pair) (k .pair-shows)
-    then-rounds r u k (end.FullA c) e = record { pair-shows = k .pair-shows; ends-as = ap endingAs (sym e) ∙ k .ends-as }
     then-rounds r u k (end.DamagedA c) e = record { pair-shows = k .pair-shows; ends-as = ap endingAs (sym e) ∙ k .ends-as }
-    then-rounds r u k (end.FullB c) e = record { pair-shows = k .pair-shows; ends-as = ap endingAs (sym e) ∙ k .ends-as }
     then-rounds r u k (end.DamagedB c) e = record { pair-shows = k .pair-shows; ends-as = ap endingAs (sym e) ∙ k .ends-as }
 
     -- Theorem: the exchange on lists of two sessions that pass the test is the theory's

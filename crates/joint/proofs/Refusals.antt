@@ -55,11 +55,10 @@ module _ (l : Layout) (s t : Session) (m : Memory) where
       unfolding exchangeOf afterTest
       exchange-15 e f = rw (tested-slot l s t m sizes room e f) (refl, refl)
 
--- ---- 13 and 14, on two sessions that pass the test: the number, the switch and the cell are those at which the theory's exchange stops, and the
+-- ---- 14, on two sessions that pass the test: the number, the switch and the cell are those at which the theory's exchange stops, and the
 -- answers 12 are its own
 abbrev pub stoppedAt : ℕ → theory.Stop → ℕ → Returned
 stoppedAt switch theory.settled twelves = withTwelves 0 twelves
-stoppedAt switch (theory.listFull c) twelves = withSwitch 13 switch c twelves
 stoppedAt switch (theory.damage c) twelves = withSwitch 14 switch c twelves
 
 abbrev pub endReturns : theory-exchange.Ending → ℕ → Returned
@@ -74,9 +73,7 @@ module _ (l : Layout) (u v : Live) (pu : Passing l u) (pv : Passing l v) (slots 
   returns-is : (o : Ending) (a b t : ℕ) → exchangeReturns (answerOf o a b t)
       ≡ endReturns (endingAs l (switchOf (u .numbers)) (u .room .filter) (switchOf (v .numbers)) (v .room .filter) o) t
   returns-is end.Settled a b t = refl
-  returns-is (end.FullA c) a b t = refl
   returns-is (end.DamagedA c) a b t = refl
-  returns-is (end.FullB c) a b t = refl
   returns-is (end.DamagedB c) a b t = refl
 
   pub exchange-returns : exchangeReturns (exchangeOn l u v .answer) ≡ endReturns (result .ending) (result .pair .twelves)

@@ -12,9 +12,7 @@ use Rattle.demands.specs.Calls.{Live, live, withListed, viewed}
 -- the flows that each session lists after an exchange, and the answers 12 in it; a refusal lists no more than before and counts none
 abbrev pub listedA : Exchanged → ℕ → ℕ
 listedA (exchanged.Done a b twelves) n = a
-listedA (exchanged.FullA c a b twelves) n = a
 listedA (exchanged.DamagedA c a b twelves) n = a
-listedA (exchanged.FullB c a b twelves) n = a
 listedA (exchanged.DamagedB c a b twelves) n = a
 listedA exchanged.NotSession n = n
 listedA exchanged.BadRoom n = n
@@ -22,9 +20,7 @@ listedA exchanged.OtherSlot n = n
 
 abbrev pub listedB : Exchanged → ℕ → ℕ
 listedB (exchanged.Done a b twelves) n = b
-listedB (exchanged.FullA c a b twelves) n = b
 listedB (exchanged.DamagedA c a b twelves) n = b
-listedB (exchanged.FullB c a b twelves) n = b
 listedB (exchanged.DamagedB c a b twelves) n = b
 listedB exchanged.NotSession n = n
 listedB exchanged.BadRoom n = n
@@ -32,9 +28,7 @@ listedB exchanged.OtherSlot n = n
 
 abbrev pub twelvesOf : Exchanged → ℕ
 twelvesOf (exchanged.Done a b twelves) = twelves
-twelvesOf (exchanged.FullA c a b twelves) = twelves
 twelvesOf (exchanged.DamagedA c a b twelves) = twelves
-twelvesOf (exchanged.FullB c a b twelves) = twelves
 twelvesOf (exchanged.DamagedB c a b twelves) = twelves
 twelvesOf exchanged.NotSession = 0
 twelvesOf exchanged.BadRoom = 0

@@ -26,6 +26,6 @@ withCell number cell = record { number = number; block = 0; cell = cell; switch 
 abbrev pub withTwelves : ℕ → ℕ → Returned
 withTwelves number twelves = record { number = number; block = 0; cell = 0; switch = 0; twelves = twelves }
 
--- 01 'A session', Exchange: "A 13 or 14 ends it and names the switch and the cell"
+-- 01 'A session', Exchange: "A 13 or 14 ends it and names the switch and the cell"; 02 l takes out 13
 abbrev pub withSwitch : ℕ → ℕ → ℕ → ℕ → Returned
 withSwitch number switch cell twelves = record { number = number; block = 0; cell = cell; switch = switch; twelves = twelves }

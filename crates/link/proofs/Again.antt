@@ -13,7 +13,7 @@ use Rattle.list.specs.Records.{Records}
 use Rattle.table.specs.Table.{Tab}
 use Rattle.peeling.specs.Peel.{Peeled, ended, peelTaken, afterPeel, peelsUpto, peelsOf, listedAt}
 use Rattle.peeling.specs.declared.Stop.{Stop}
-use Rattle.peeling.specs.declared.Stop.the-variants.{Done, Full, Damaged}
+use Rattle.peeling.specs.declared.Stop.the-variants.{Done, Damaged}
 use Rattle.counting.specs.Book.{Book}
 use Rattle.counting.specs.Count as counts
 use Rattle.counting.specs.Count.{Counted, afterCount, countsUpto, countsOf}
@@ -21,74 +21,65 @@ use Rattle.counting.specs.declared.Stop as counting
 use Rattle.counting.specs.declared.Stop.the-variants as count
 use Rattle.settling.specs.Settle.{settled, afterCounts, thenCounts, settleOf}
 use Rattle.test8.specs.Test8.{isSession}
-use Rattle.theory.specs.Session.{Session, unknownsOf, Step, quiet, full, damaged, next, peelPure, settle}
+use Rattle.theory.specs.Session.{Session, unknownsOf, Step, quiet, damaged, next, peelPure, settle}
 use Rattle.theory.specs.Session as theory
 use Rattle.theory.specs.Notes.{Notes, Noted, noted, mapStep, peelNoted}
 use Rattle.theory.specs.Proper.{Proper}
 use Rattle.theory.proofs.Repeat.{stepOf, quiet-only}
-use Rattle.theory.proofs.Steps.{count-idle, count-room}
-use Rattle.theory.proofs.Settle.{EndsAt, peeling-full, peeling-damaged, after-peeling, settle-ends}
+use Rattle.theory.proofs.Steps.{count-idle}
+use Rattle.theory.proofs.Settle.{EndsAt, peeling-damaged, after-peeling, settle-ends}
 use Rattle.theory.proofs.Noted.{peel-noted}
 use Rattle.link.specs.View.{sessionOf, notedOf}
 use Rattle.link.specs.Held.{Lent, Held, Sound, withBook}
 use Rattle.link.specs.Answers.{peelStep, countStep, stopOf}
-use Rattle.link.proofs.Peel.{Peeling, none-marked, no-room, broken, taken-out, peeling, peel-is}
+use Rattle.link.proofs.Peel.{Peeling, none-marked, broken, taken-out, peeling, peel-is, well-room}
 use Rattle.link.proofs.Count.{Counting, none-ready, miscounted, made-known, counting}
 use Rattle.link.proofs.Counts.{step-is}
 use Rattle.link.proofs.Settle.{proper-held, started, starts, unknowns-le}
-use Rattle.link.proofs.Test8.{session-proper}
+use Rattle.link.proofs.Test8.{session-proper, proper-bounded}
 use Rattle.link.proofs.Sessions.{session-settles, session-lent, session-again}
 
 -- ---- a step that stops as the theory's does
 -- how settling stops, where n flows are listed
 abbrev stopFor : ℕ → theory.Stop → Stop
 stopFor n theory.settled = Done n
-stopFor n (theory.listFull c) = Full n c
 stopFor n (theory.damage c) = Damaged n c
 
 abbrev stopBy : ℕ → Step Noted → Stop
 stopBy n quiet = Done n
-stopBy n (full c) = Full n c
 stopBy n (damaged c) = Damaged n c
 stopBy n (next s) = Done n
 
 stop-by : (n : ℕ) (s : theory.Stop) → stopBy n (stepOf s) ≡ stopFor n s
 stop-by n theory.settled = refl
-stop-by n (theory.listFull c) = refl
 stop-by n (theory.damage c) = refl
 
--- and so counting, which knows no 13
+-- and so counting
 abbrev countFor : theory.Stop → counting.Stop
 countFor theory.settled = count.Done
-countFor (theory.listFull c) = count.Done
 countFor (theory.damage c) = count.Damaged c
 
 abbrev countBy : Step Noted → counting.Stop
 countBy quiet = count.Done
-countBy (full c) = count.Done
 countBy (damaged c) = count.Damaged c
 countBy (next s) = count.Done
 
 count-by : (s : theory.Stop) → countBy (stepOf s) ≡ countFor s
 count-by theory.settled = refl
-count-by (theory.listFull c) = refl
 count-by (theory.damage c) = refl
 
 -- a stop is no step
 abbrev steps : Step Noted → ℕ
 steps quiet = 0
-steps (full c) = 0
 steps (damaged c) = 0
 steps (next s) = 1
 
 no-step : {A : Type 0} (s : theory.Stop) (t : Noted) → next t ≡ stepOf s → A
 no-step theory.settled t e = let z : _≡_ {A = ℕ} 1 0 = ap steps e in absurd (omega arith)
-no-step (theory.listFull c) t e = let z : _≡_ {A = ℕ} 1 0 = ap steps e in absurd (omega arith)
 no-step (theory.damage c) t e = let z : _≡_ {A = ℕ} 1 0 = ap steps e in absurd (omega arith)
 
 map-stop : (h : Session → Noted) (s : theory.Stop) → mapStep h (stepOf s) ≡ stepOf s
 map-stop h theory.settled = refl
-map-stop h (theory.listFull c) = refl
 map-stop h (theory.damage c) = refl
 
 peel-over : (l : Layout) (z : Sizes) (salt n : ℕ) (t : Tab) (packets : List ℕ) (rs : Records) (seen : List ℕ) (m : ℕ) (s : theory.Stop) {p : Peeled}
@@ -96,9 +87,8 @@ peel-over : (l : Layout) (z : Sizes) (salt n : ℕ) (t : Tab) (packets : List �
     → afterPeel (peelsUpto m l z salt (n + 1)) n (p .answer) (p .table) (p .list) (p .seen) ≡ ended (stopFor n s) t rs seen
 unfolding afterPeel peelTaken
 peel-over l z salt n t packets rs seen m s (none-marked a) e = ap (λ o. ended o t rs seen) (ap (stopBy n) e ∙ stop-by n s)
-peel-over l z salt n t packets rs seen m s (no-room a b) e = ap (λ o. ended o t rs seen) (ap (stopBy n) e ∙ stop-by n s)
-peel-over l z salt n t packets rs seen m s (broken a b d) e = ap (λ o. ended o t rs seen) (ap (stopBy n) e ∙ stop-by n s)
-peel-over l z salt n t packets rs seen m s (taken-out a b d) e = no-step s _ e
+peel-over l z salt n t packets rs seen m s (broken a d) e = ap (λ o. ended o t rs seen) (ap (stopBy n) e ∙ stop-by n s)
+peel-over l z salt n t packets rs seen m s (taken-out a d) e = no-step s _ e
 
 count-over : (l : Layout) (z : Sizes) (salt n : ℕ) (t : Tab) (b : Book) (rs : Records) (m : ℕ) (s : theory.Stop) {p : Counted}
     → Counting l z salt n (t .flows) b rs p
@@ -128,7 +118,7 @@ module _ (l : Layout) (z : Sizes) (salt n : ℕ) (t : Tab) (packets : List ℕ) 
       let has = hasCell l z salt in
       let is : notedOf l z n t packets rs ≡ noted has before = ap (λ (u : Notes). record { session = before; notes = u }) (proper .right) in
       peel-over l z salt n t packets rs seen (2 * size - n) s (peeling l z salt n t rs seen)
-      (peel-is l z salt n t packets rs held seen ∙ ap (peelNoted size has) is ∙ peel-noted size has before
+      (peel-is l z salt n t packets rs held (well-room l z salt n t packets rs (held, proper-bounded l z salt n t packets rs lent proper)) seen ∙ ap (peelNoted size has) is ∙ peel-noted size has before
       ∙ ap (mapStep (noted has)) e ∙ map-stop (noted has) s)
 
   sound : Sound l z salt n t (started l z salt packets t rs seen) rs
@@ -148,18 +138,15 @@ module _ (l : Layout) (z : Sizes) (salt n : ℕ) (t : Tab) (packets : List ℕ) 
       → thenCounts l z salt packets t rs seen (Done n) ≡ settled (stopFor n s) t packets rs seen
   unfolding thenCounts countsOf afterCounts
   then-over theory.settled e = rw (upto-over n (unknowns-le l n rs) theory.settled e)
-  then-over (theory.listFull c) e = absurd (count-room size (hasCell l z salt) before c e)
   then-over (theory.damage c) e = rw (upto-over n (unknowns-le l n rs) (theory.damage c) e)
 
   settle-over : (s : theory.Stop) → EndsAt size (hasCell l z salt) before s → settleOf l z salt n t packets rs seen ≡ settled (stopFor n s) t packets rs seen
   unfolding settleOf thenCounts
-  settle-over s (peeling-full c e) = rw (peels-over (theory.listFull c) e)
   settle-over s (peeling-damaged c e) = rw (peels-over (theory.damage c) e)
   settle-over s (after-peeling _ p e) = rw (peels-over theory.settled p) (then-over s e)
 
 stop-named : (a : Stop) → stopFor (listedAt a) (stopOf a) ≡ a
 stop-named (Done n) = refl
-stop-named (Full n c) = refl
 stop-named (Damaged n c) = refl
 
 -- Theorem: on every session that the test of 8 lets pass, settling what a settling left changes nothing and answers the same, 14 with its cell too

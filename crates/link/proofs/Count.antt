@@ -32,7 +32,8 @@ use Rattle.theory.specs.Notes.{Noted, readyBy, countNoted}
 use Rattle.link.specs.View.{below, cellsOf, recordAt, numbersOf, notedOf}
 use Rattle.link.specs.Held.{Lent, Held, Ready, Named, withBook}
 use Rattle.link.specs.Answers.{countStep}
-use Rattle.link.proofs.Cells.{first-any, first-lowest, any-cell}
+use Rattle.table.proofs.Spots.{any-cell}
+use Rattle.link.proofs.Cells.{first-any, first-lowest}
 use Rattle.link.proofs.Told.{told-is}
 use Rattle.link.proofs.Ends.{counted-quiet, counted-broken, counted-told}
 

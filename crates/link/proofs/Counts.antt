@@ -17,7 +17,7 @@ use Rattle.counting.specs.Count.{Counted, Ended, afterCount, countOf, countsUpt
 use Rattle.counting.specs.declared.Stop as counting
 use Rattle.counting.specs.declared.Stop.the-variants as stop
 use Rattle.theory.specs.Encode.{Placement}
-use Rattle.theory.specs.Session.{Session, ready, Step, quiet, full, damaged, next, settled, damage, afterStep, repeat}
+use Rattle.theory.specs.Session.{Session, ready, Step, quiet, damaged, next, settled, damage, afterStep, repeat}
 use Rattle.theory.specs.Session as theory
 use Rattle.theory.specs.Notes.{Notes, Noted, positionsIn, scan, noted, mapStep, mapResult, readyBy, countNoted}
 use Rattle.theory.proofs.Single.{ready-one}
@@ -32,7 +32,6 @@ use Rattle.link.proofs.Count.{Counting, none-ready, miscounted, made-kn
 -- the theory's step that a noted one is
 bare : (has : Placement) (v : Step Session) → mapStep (λ u. u .session) (mapStep (noted has) v) ≡ v
 bare has quiet = refl
-bare has (full c) = refl
 bare has (damaged c) = refl
 bare has (next s) = refl
 

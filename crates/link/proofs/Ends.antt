@@ -2,12 +2,11 @@
 use mathlib.Core.Path.{_≡_}
 use mathlib.Core.Bool.{true, false}
 use mathlib.Core.List.{[]}
-use Prim.Native.Nat.{ℕ, _*_}
-use lib.Dec.{leb}
+use Prim.Native.Nat.{ℕ}
 use lib.ListN.{length, getD}
 use Rattle.laws.specs.Upto.{anyUpto, lowest}
 use Rattle.theory.specs.Encode.{Key, Placement}
-use Rattle.theory.specs.Session.{newRecord, takeOut, setCount, quiet, full, damaged, next, peelDamaged, peelAt, peel, countDamaged}
+use Rattle.theory.specs.Session.{newRecord, takeOut, setCount, quiet, damaged, next, peelDamaged, peelAt, peel, countDamaged}
 use Rattle.theory.specs.Notes.{Noted, noteTaken, noteTold, peelNoted, readyBy, tellAt, countNoted}
 
 module _ (n : ℕ) (has : Placement) (t : Noted) where
@@ -16,23 +15,18 @@ module _ (n : ℕ) (has : Placement) (t : Noted) where
   noted-quiet a = rw a
 
   module _ (a : anyUpto n (t .notes .marks) ≡ true) where
-    pub noted-full : leb (2 * n) (length (t .session .list)) ≡ true → peelNoted n has t ≡ full (lowest n (t .notes .marks))
+    pub noted-broken : peelDamaged n has (t .session) (t .session .cells (lowest n (t .notes .marks)) .flowXor) ≡ true
+        → peelNoted n has t ≡ damaged (lowest n (t .notes .marks))
     unfolding peelNoted peel peelAt
-    noted-full b = rw (a, b)
+    noted-broken d = rw (a, d)
 
-    module _ (b : leb (2 * n) (length (t .session .list)) ≡ false) where
-      pub noted-broken : peelDamaged n has (t .session) (t .session .cells (lowest n (t .notes .marks)) .flowXor) ≡ true
-          → peelNoted n has t ≡ damaged (lowest n (t .notes .marks))
-      unfolding peelNoted peel peelAt
-      noted-broken d = rw (a, b, d)
-
-      pub noted-taken : (x : Key) (j : ℕ) → t .session .cells (lowest n (t .notes .marks)) .flowXor ≡ x → length (t .session .list) ≡ j
-          → peelDamaged n has (t .session) x ≡ false → peelNoted n has t ≡ next (record {
-            session = takeOut has false x (t .session);
-            notes = noteTaken has x j (takeOut has false x (t .session)) (t .notes);
-          })
-      unfolding peelNoted peel peelAt
-      noted-taken x j e q d = rw (a, b, e, d, q)
+    pub noted-taken : (x : Key) (j : ℕ) → t .session .cells (lowest n (t .notes .marks)) .flowXor ≡ x → length (t .session .list) ≡ j
+        → peelDamaged n has (t .session) x ≡ false → peelNoted n has t ≡ next (record {
+          session = takeOut has false x (t .session);
+          notes = noteTaken has x j (takeOut has false x (t .session)) (t .notes);
+        })
+    unfolding peelNoted peel peelAt
+    noted-taken x j e q d = rw (a, e, d, q)
 
   pub counted-quiet : anyUpto n (readyBy t) ≡ false → countNoted n has t ≡ quiet
   unfolding countNoted

@@ -2,13 +2,12 @@
 use mathlib.Core.Path.{_≡_, refl, sym}
 use Prim.Native.Nat.{ℕ, zero, suc, _≤_, _<_}
 use native.Mathlib.Omega.{arith}
-use Rattle.theory.specs.Session.{Step, quiet, full, damaged, next, Result, afterStep, repeat}
+use Rattle.theory.specs.Session.{Step, quiet, damaged, next, Result, afterStep, repeat}
 
 module _ {S : Type 0} (f : S → Step S) (μ : S → ℕ) (falls : (s t : S) → f s ≡ next t → μ t < μ s) (idle : (s : S) → μ s ≡ 0 → f s ≡ quiet) where
   turn-same : (go gone : S → Result S) (s : S) (v : Step S) → ((t : S) → v ≡ next t → go t ≡ gone t) → afterStep go s v ≡ afterStep gone s v
   unfolding afterStep
   turn-same go gone s quiet h = refl
-  turn-same go gone s (full c) h = refl
   turn-same go gone s (damaged c) h = refl
   turn-same go gone s (next t) h = h t refl
 

@@ -1,5 +1,5 @@
 -- Settling and hand-over on the lists of a session that the test of 8 lets pass.
-use mathlib.Core.Path.{_≡_, sym, ap, _∙_}
+use mathlib.Core.Path.{_≡_}
 use mathlib.Core.Bool.{Bool, true}
 use mathlib.Core.List.{List}
 use Prim.Native.Nat.{ℕ, _+_}
@@ -11,16 +11,14 @@ use Rattle.hash.specs.Places.{hasCell}
 use Rattle.list.specs.Records.{Records, appended}
 use Rattle.table.specs.Table.{Tab, takenOut}
 use Rattle.peeling.specs.Peel.{listedAt}
-use Rattle.peeling.specs.declared.Stop.the-variants.{Full}
 use Rattle.settling.specs.Settle.{settleOf}
 use Rattle.test8.specs.Test8.{isSession}
 use Rattle.theory.specs.Encode.{Key}
 use Rattle.theory.specs.Session.{settle}
 use Rattle.theory.specs.HandOver.{handAnswer}
-use Rattle.theory.proofs.Settle.{never-13}
 use Rattle.link.specs.View.{sessionOf}
 use Rattle.link.specs.Held.{Lent}
-use Rattle.link.specs.Answers.{stopOf, SettlesAs}
+use Rattle.link.specs.Answers.{SettlesAs}
 use Rattle.link.proofs.Settle.{settles-as, settle-held, settle-clear, settled-proper}
 use Rattle.link.proofs.Hand.{handed-proper, handed-lent, handed-clear}
 use Rattle.link.proofs.Test8.{session-proper, proper-session}
@@ -43,11 +41,6 @@ module _ (l : Layout) (z : Sizes) (salt n : ℕ) (t : Tab) (packets : List ℕ) 
       let e = settleOf l z salt n t packets rs seen in
       proper-session l z salt (listedAt (e .answer)) (e .table) (e .packets) (e .list) session-lent
       (settled-proper l z salt n t packets rs seen lent (p .0)) (settle-clear l z salt n t packets rs seen lent (p .0) (p .1))
-
-  -- Theorem: and 13 is never given
-  pub session-room : (m c : ℕ) → settleOf l z salt n t packets rs seen .answer ≡ Full m c → ⊥
-  session-room m c e = never-13 (tableCells l z) (hasCell l z salt) (sessionOf l z n t packets rs)
-      (session-proper l z salt n t packets rs lent passes .0 .fits) c (sym (session-settles .answer) ∙ ap stopOf e)
 
 -- Theorem: a hand-over that is answered with 0 leaves a session that passes the test
 pub handed-again : (l : Layout) (z : Sizes) (salt n : ℕ) (t : Tab) (packets : List ℕ) (rs : Records) (lent : Lent l z t packets rs)

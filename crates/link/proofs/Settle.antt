@@ -20,7 +20,7 @@ use Rattle.list.specs.Records.{Records}
 use Rattle.table.specs.Table.{Tab, tab}
 use Rattle.peeling.specs.Peel.{peelsOf, listedAt}
 use Rattle.peeling.specs.declared.Stop.{Stop}
-use Rattle.peeling.specs.declared.Stop.the-variants.{Done, Full, Damaged}
+use Rattle.peeling.specs.declared.Stop.the-variants.{Done, Damaged}
 use Rattle.counting.specs.Book.{Book, book, readyUpto}
 use Rattle.counting.specs.Count.{Ended, countsOf}
 use Rattle.counting.specs.declared.Stop as counting
@@ -41,7 +41,8 @@ use Rattle.link.specs.View.{below, recordAt, recordsOf, sessionOf, numbe
 use Rattle.link.specs.Held.{Lent, Held, Clear, Ready}
 use Rattle.link.specs.Answers.{stopOf, endedAs, countStop, countedAs, settledAs, SettlesAs}
 use Rattle.link.proofs.Given.{where-number, passing-number}
-use Rattle.link.proofs.Peel.{peels-is, peels-held, peels-clear}
+use Rattle.link.proofs.Peel.{HeldWell, peels-is, peels-held, peels-clear}
+use Rattle.link.proofs.Test8.{proper-bounded}
 use Rattle.link.proofs.Count.{ready-starts}
 use Rattle.link.proofs.Counts.{counts-is, counts-held}
 use Rattle.link.proofs.Fuel.{fuel-same}
@@ -112,7 +113,6 @@ module _ (l : Layout) (z : Sizes) (salt : ℕ) (packets : List ℕ) (t : Tab) (r
       ∙ ap (mapResult (noted has)) (fuel-same (countStep (tableCells l z) has) (λ u. length (unknownsOf (u .list)))
       (count-falls (tableCells l z) has) (count-idle (tableCells l z) has) n (length (unknownsOf (s .list))) s
       (unknowns-le l n rs) (le-refl _))
-  then-is (Full n c) h right apart = ap (stopped n (theory.listFull c)) right
   then-is (Damaged n c) h right apart = ap (stopped n (theory.damage c)) right
 
   then-held : (a : Stop) → Held l z (listedAt a) t packets rs → let e = thenCounts l z salt packets t rs seen a in
@@ -122,14 +122,12 @@ module _ (l : Layout) (z : Sizes) (salt : ℕ) (packets : List ℕ) (t : Tab) (r
       let e = countsOf l z salt n (t .flows) packets (t .unknowns) (t .positions) rs in
       subst (λ m. Held l z m (tab (t .xors) (t .flows) (e .unknowns) (e .positions) (t .marks)) (e .packets) (e .list))
       (sym (stop-listed n (e .answer))) (counts-held l z salt n t n started rs h (starts n h))
-  then-held (Full n c) h = h
   then-held (Damaged n c) h = h
 
   -- counting leaves the marks
   then-marks : (a : Stop) → thenCounts l z salt packets t rs seen a .table .marks ≡ t .marks
   unfolding thenCounts afterCounts
   then-marks (Done n) = refl
-  then-marks (Full n c) = refl
   then-marks (Damaged n c) = refl
 
 -- ---- settling
@@ -141,6 +139,9 @@ module _ (l : Layout) (z : Sizes) (salt n : ℕ) (t : Tab) (packets : List ℕ) 
   abbrev before : Session
   before = sessionOf l z n t packets rs
 
+  held-well : HeldWell l z salt n t packets rs
+  held-well = (proper-held l z salt n t packets rs lent proper, proper-bounded l z salt n t packets rs lent proper)
+
   -- the list's room is fuel enough: each peel closes a cell, and open cells and listed flows are no more than 2 N together
   open-room : openCells size (before .cells) ≤ suc (2 * size - n)
   open-room = omega (arith, list-parts (before .list), length-list n (recordAt l rs), proper .fits .handed-room, proper .fits .peeled-room)
@@ -151,7 +152,7 @@ module _ (l : Layout) (z : Sizes) (salt n : ℕ) (t : Tab) (packets : List ℕ) 
   peels-scan =
       let has = hasCell l z salt in
       let m = suc (2 * size - n) in
-      peels-is l z salt packets m n t rs seen (proper-held l z salt n t packets rs lent proper)
+      peels-is l z salt packets m n t rs seen held-well
       ∙ ap (λ (u : Notes). repeat (peelNoted size has) m (record { session = before; notes = u })) (proper .right)
       ∙ repeat-map (peelPure size has) (peelNoted size has) (noted has) (λ u. Distinct (keysOf (u .list))) (distinct-peel size has)
       (λ u _. peel-noted size has u) m before (proper .apart)
@@ -160,7 +161,7 @@ module _ (l : Layout) (z : Sizes) (salt n : ℕ) (t : Tab) (packets : List ℕ) 
 
   peeled-held : let p = peelsOf l z salt n t rs seen in Held l z (listedAt (p .answer)) (p .table) packets (p .list)
   unfolding peelsOf
-  peeled-held = peels-held l z salt n t packets rs (proper-held l z salt n t packets rs lent proper) seen (suc (2 * size - n))
+  peeled-held = peels-held l z salt n t packets rs held-well seen (suc (2 * size - n)) .0
 
   -- Theorem: what settling the lists leaves is what settling by looking through all cells leaves,
   -- and marks and per-cell numbers are those that its cells and list give
@@ -198,7 +199,7 @@ module _ (l : Layout) (z : Sizes) (salt n : ℕ) (t : Tab) (packets : List ℕ) 
   unfolding settleOf peelsOf
   settle-clear c = let p = peelsOf l z salt n t rs seen in
       subst (Clear size) (sym (then-marks l z salt packets (p .table) (p .list) (p .seen) (p .answer)))
-      (peels-clear l z salt n t packets rs (proper-held l z salt n t packets rs lent proper) seen (suc (2 * size - n)) c)
+      (peels-clear l z salt n t packets rs held-well seen (suc (2 * size - n)) c)
 
   -- Theorem: and the session passes the test again
   pub settled-proper : let e = settleOf l z salt n t packets rs seen in

@@ -19,15 +19,16 @@ use Rattle.hash.specs.Places.{hasCell}
 use Rattle.hash.proofs.Apart.{has-within}
 use Rattle.list.specs.Records.{Records, appended}
 use Rattle.list.proofs.Laws.{room-appended}
-use Rattle.table.specs.Table.{Tab, Fit, takenOut}
+use Rattle.table.specs.Table.{Tab, Fit, takenOut, Spot, spotAt}
 use Rattle.table.proofs.Table.{fit-out}
 use Rattle.theory.specs.Encode.{Key, Placement, emptyTable}
 use Rattle.theory.specs.Session.{Session, pure, takeOut}
 use Rattle.theory.specs.Notes.{Notes, Noted, noteTaken}
-use Rattle.link.specs.View.{below, cell, cellsOf, sessionOf, marksOf, numbersOf, notesOf, notedOf, flagOf, Spot, spotAt}
+use Rattle.link.specs.View.{below, cell, cellsOf, sessionOf, marksOf, numbersOf, notesOf, notedOf, flagOf}
 use Rattle.link.specs.Held.{Lent, Held, Clear}
 use Rattle.link.proofs.Lists.{list-appended}
-use Rattle.link.proofs.Cells.{below-changed, taken, taken-spots, taken-words}
+use Rattle.table.proofs.Spots.{taken, taken-spots, taken-words}
+use Rattle.link.proofs.Cells.{below-changed}
 
 pub session-path : {s r : Session} → s .cells ≡ r .cells → s .list ≡ r .list → s ≡ r
 session-path a b = λ i. record { cells = a i; list = b i }

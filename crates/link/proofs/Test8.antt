@@ -19,11 +19,12 @@ use Rattle.layout.specs.declared.Sizes.{Sizes}
 use Rattle.layout.specs.Sizes.{tableCells}
 use Rattle.hash.specs.Places.{hasCell}
 use Rattle.hash.proofs.Apart.{has-within}
-use Rattle.list.specs.Records.{Records, Room, keyAt, isKnown, isListed}
+use Rattle.list.specs.Records.{Records, Room, keyAt, isKnown, isListed, handedIn, peeledIn}
 use Rattle.marks.specs.Marks.{wordsFor, marked}
-use Rattle.table.specs.Table.{Tab, pureAt}
-use Rattle.test8.specs.Test8.{overListed, keysRepeat, zeroCount, handedIn, peeledIn, openIn, numbersIn, agrees, marksRight, restClear}
+use Rattle.table.specs.Table.{Tab, pureAt, openIn, MarksRight, Bounded}
+use Rattle.test8.specs.Test8.{overListed, keysRepeat, zeroCount, numbersIn, agrees, marksRight, restClear}
 use Rattle.test8.specs.Test8.{unknownIn, unknownsGiven, positionsGiven, notesRight, isSession}
+use Rattle.test8.proofs.Passed.{marks-told}
 use Rattle.theory.specs.Encode.{Key, sameKey, among, Distinct, Placement, emptyTable}
 use Rattle.theory.specs.Session.{Record, Session, keysOf, handedOf, peeledOf, pure, unknownsIn, openCells}
 use Rattle.theory.specs.Notes.{Notes, positionsIn, scan}
@@ -94,10 +95,6 @@ module _ (l : Layout) (m : ℕ) (rs : Records) (room : Room l m rs) where
             (let e : n ≡ j = omega arith in
             rw e at (sym (listed-is l m n rs room (omega arith) (keyAt l (rs .keys) n) (record-length l m n rs room n (omega arith))) ∙ parts .1))
       ]
-
-agree : (a b : Bool) → agrees a b ≡ true → a ≡ b
-agree true b h = sym h
-agree false b h = sym (not-t b h)
 
 agree-self : (a b : Bool) → a ≡ b → agrees a b ≡ true
 agree-self true b e = sym e
@@ -200,16 +197,13 @@ module _ (l : Layout) (z : Sizes) (salt n : ℕ) (t : Tab) (packets : List ℕ) 
       (λ i x h e. rw (given-past c q i) e)
 
   -- ---- marks and per-cell numbers are right in every cell exactly when they are in the table's
-  abbrev MarksRight : Type 0
-  MarksRight = (c : ℕ) → c < size → marked (t .marks) c ≡ pureAt l z salt (t .xors) (t .flows) c
-
   abbrev UnknownsRight : Type 0
   UnknownsRight = (c : ℕ) → c < size → getD (t .unknowns) c 0 ≡ unknownsGiven l z salt n rs c
 
   abbrev PositionsRight : Type 0
   PositionsRight = (c : ℕ) → c < size → getD (t .positions) c 0 ≡ positionsGiven l z salt n rs c
 
-  notes-right : MarksRight → UnknownsRight → PositionsRight → notesOf size t ≡ scan has session
+  notes-right : MarksRight l z salt t → UnknownsRight → PositionsRight → notesOf size t ≡ scan has session
   unfolding scan marksOf numbersOf below
   notes-right a b d = notes-path
       (fun-ext (λ c. elim (decLt c size) [
@@ -226,7 +220,7 @@ module _ (l : Layout) (z : Sizes) (salt n : ℕ) (t : Tab) (packets : List ℕ) 
       ]))
 
   module _ (right : notesOf size t ≡ scan has session) where
-    right-marks : MarksRight
+    right-marks : MarksRight l z salt t
     unfolding scan marksOf below
     right-marks c q = rw (lt-ltb c size q) at (ap (λ (m : Notes). m .marks c) right) ∙ pure-in c q
 
@@ -256,12 +250,7 @@ module _ (l : Layout) (z : Sizes) (salt n : ℕ) (t : Tab) (packets : List ℕ) 
       (λ j q. not-i (marked (t .marks) (size + j)) (h (size + j) (omega arith)))
 
   -- ---- the clauses that the test asks cell by cell
-  marks-told : marksRight l z salt (t .xors) (t .flows) (t .marks) ≡ true → MarksRight
-  unfolding marksRight
-  marks-told h c q = agree (marked (t .marks) c) (pureAt l z salt (t .xors) (t .flows) c)
-      (all-at size (λ i. agrees (marked (t .marks) i) (pureAt l z salt (t .xors) (t .flows) i)) h c q)
-
-  marks-asked : MarksRight → marksRight l z salt (t .xors) (t .flows) (t .marks) ≡ true
+  marks-asked : MarksRight l z salt t → marksRight l z salt (t .xors) (t .flows) (t .marks) ≡ true
   unfolding marksRight
   marks-asked h = all-yes size (λ i. agrees (marked (t .marks) i) (pureAt l z salt (t .xors) (t .flows) i))
       (λ c q. agree-self (marked (t .marks) c) (pureAt l z salt (t .xors) (t .flows) c) (h c q))
@@ -299,10 +288,19 @@ module _ (l : Layout) (z : Sizes) (salt n : ℕ) (t : Tab) (packets : List ℕ) 
             handed-room = rw handed-is (leb-true (handedIn n rs) size (and-l handed peeled (c .numbers)));
             peeled-room = rw (peeled-is, open-is) (leb-true (peeledIn n rs + openIn size (t .flows)) size (and-r handed peeled (c .numbers)));
           };
-          right = notes-right (marks-told (c .marks)) (notes-told (c .notes) .0) (notes-told (c .notes) .1);
+          right = notes-right (marks-told l z salt t (c .marks)) (notes-told (c .notes) .0) (notes-told (c .notes) .1);
         },
         rest-clear (c .rest),
       )
+
+  -- marks and numbers are then such that a peel finds room in the list
+  pub proper-bounded : Proper size has (notedOf l z n t packets rs) → Bounded l z salt n t rs
+  proper-bounded p = record {
+    words = lent .words;
+    marks-right = right-marks (p .right);
+    handed-few = omega (arith, handed-is, p .fits .handed-room);
+    peeled-few = omega (arith, peeled-is, open-is, p .fits .peeled-room);
+  }
 
   -- Theorem: and the test lets every such session pass
   pub proper-session : Proper size has (notedOf l z n t packets rs) → Clear size (t .marks) → isSession l z salt n t rs ≡ true

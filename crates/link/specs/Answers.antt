@@ -18,14 +18,13 @@ use Rattle.counting.specs.declared.Step.the-variants as count
 use Rattle.counting.specs.declared.Stop.{Stop as CountStop}
 use Rattle.counting.specs.declared.Stop.the-variants as told
 use Rattle.settling.specs.Settle.{Settled}
-use Rattle.theory.specs.Session.{Step, quiet, full, damaged, next, Stop, settled, listFull, damage, Result, Session}
+use Rattle.theory.specs.Session.{Step, quiet, damaged, next, Stop, settled, damage, Result, Session}
 use Rattle.theory.specs.Notes.{Noted, scan}
 use Rattle.link.specs.View.{cellsOf, recordsOf, notesOf, notedOf}
 
 -- one peel that left s
 abbrev pub peelStep : PeelStep → Noted → Step Noted
 peelStep peel.Quiet s = quiet
-peelStep (peel.Full c) s = full c
 peelStep (peel.Damaged c) s = damaged c
 peelStep peel.Next s = next s
 
@@ -38,7 +37,6 @@ countStep count.Next s = next s
 -- how settling ended
 abbrev pub stopOf : SettleStop → Stop
 stopOf (stop.Done n) = settled
-stopOf (stop.Full n c) = listFull c
 stopOf (stop.Damaged n c) = damage c
 
 -- what peeling leaves: how it ended, cells, list, marks and per-cell numbers

@@ -57,20 +57,3 @@ notesOf n t = record { marks = marksOf n (t .marks); unknowns = numbersOf n (t .
 -- a session with n flows listed, and its marks and per-cell numbers
 abbrev pub notedOf : Layout → Sizes → ℕ → Tab → List ℕ → Records → Noted
 notedOf l z n t packets rs = record { session = sessionOf l z n t packets rs; notes = notesOf (tableCells l z) t }
-
--- what a session has for cell c, PacketCount left out
-pub record Spot : Type 0 where
-  pub xor : List ℕ
-  pub flow : ℕ
-  pub unknown : ℕ
-  pub position : ℕ
-  pub mark : Bool
-
-abbrev pub spotAt : Layout → Tab → ℕ → Spot
-spotAt l t c = record {
-  xor = keyAt l (t .xors) c;
-  flow = getD (t .flows) c 0;
-  unknown = getD (t .unknowns) c 0;
-  position = getD (t .positions) c 0;
-  mark = marked (t .marks) c;
-}

@@ -1,25 +1,27 @@
 -- Keys are the same when their bytes are; a key appended is read back and the others stay; the lists keep their lengths.
-use mathlib.Core.Path.{_≡_, refl, sym, ap, _∙_}
-use mathlib.Core.Bool.{true}
+use mathlib.Core.Path.{_≡_, refl, sym, ap, ap₂, _∙_}
+use mathlib.Core.Bool.{Bool, true, cond}
 use mathlib.Core.List.{List, _++_}
 use mathlib.Core.Logic.{inl, inr}
 use Prim.Native.Nat.{ℕ, _+_, _-_, _*_, _<_, _≤_}
+use native.Mathlib.Decide.{ℕ-discrete, decLt}
 use native.Mathlib.Nat.{mul-le-mul, mul-le-mul-right}
 use native.Mathlib.Omega.{arith}
 use borrow.Author.Tests.{eq-eqb, eqb-true}
 use lib.Bits.{bitOr}
 use lib.Dec.{eqb}
-use lib.ListN.{length, getD, take, drop, length-set}
+use lib.ListN.{length, getD, set, take, drop, length-set, List·getD-eq-default}
 use lib.Seq.{sets, length-sets, ext-getD, getD-set-same, getD-set-other}
 use Rattle.laws.specs.Digit.{digit}
 use Rattle.laws.proofs.Digits.{digit-or, digit-lt, digit-pow, digit-pow-other}
 use Rattle.laws.proofs.Lists.{length-part, part-sets-same, part-sets-other, lent-sets}
+use Rattle.laws.proofs.Lowest.{number-same, number-more, number-rest}
 use Rattle.laws.proofs.Upto.{any-some, any-yes, all-at, all-yes}
 use Rattle.layout.specs.declared.Layout.{Layout}
 use Rattle.layout.specs.declared.Sizes.{Sizes}
 use Rattle.layout.specs.Sizes.{Lays, Ranged, tableCells}
 use Rattle.layout.proofs.Ranges.{table-high, cell-high}
-use Rattle.list.specs.Records.{Records, records, Room, keyAt, isKnown, isHanded, sameBytes, isListed, appended, knownAt, withCount}
+use Rattle.list.specs.Records.{Records, records, Room, keyAt, isKnown, isHanded, handedIn, peeledIn, sameBytes, isListed, appended, knownAt, withCount}
 use Rattle.laws.proofs.Rows.{row-within}
 
 -- ---- keys
@@ -136,3 +138,42 @@ handed-told i v rs h =
 pub flags-other : (i v j : ℕ) (rs : Records) → (j ≡ i → ⊥) → getD (withCount i v rs .flags) j 0 ≡ getD (rs .flags) j 0
 unfolding knownAt
 flags-other i v j rs n = getD-set-other (rs .flags) i j (bitOr (getD (rs .flags) i 0) 1) 0 n
+
+-- where there is no such position nothing changes
+flags-past : (i v : ℕ) (rs : Records) → length (rs .flags) ≤ i → getD (withCount i v rs .flags) i 0 ≡ getD (rs .flags) i 0
+unfolding knownAt
+flags-past i v rs h =
+    List·getD-eq-default (withCount i v rs .flags) 0 {n = i} (omega (arith, length-set (rs .flags) i (bitOr (getD (rs .flags) i 0) 1)))
+    ∙ sym (List·getD-eq-default (rs .flags) 0 {n = i} h)
+
+-- a count that becomes known changes no flow's flag of being handed over
+pub handed-still : (i v j : ℕ) (rs : Records) → isHanded (withCount i v rs) j ≡ isHanded rs j
+unfolding isHanded
+handed-still i v j rs = elim (ℕ-discrete j i) [
+  | no d ↦ rw (flags-other i v j rs d)
+  | yes e ↦ elim (decLt i (length (rs .flags))) [
+    | yes h ↦ rw e (handed-told i v rs h)
+    | no h ↦ rw e (ap (λ x. eqb (digit x 1) 1) (flags-past i v rs (omega arith)))
+  ]
+]
+
+-- ---- how many were handed over and how many peeled
+pub listed-parts : (n : ℕ) (rs : Records) → handedIn n rs + peeledIn n rs ≡ n
+unfolding handedIn peeledIn
+listed-parts n rs = number-rest n (isHanded rs)
+
+pub handed-same : (n : ℕ) (rs rs′ : Records) → ((i : ℕ) → isHanded rs′ i ≡ isHanded rs i) → handedIn n rs′ ≡ handedIn n rs
+unfolding handedIn
+handed-same n rs rs′ h = number-same n (isHanded rs′) (isHanded rs) (λ i q. h i)
+
+-- one more record, peeled (flag 0) or handed over (flag 2)
+pub handed-more : (l : Layout) (n : ℕ) (key : List ℕ) (flag : ℕ) (rs : Records) → n < length (rs .flags)
+    → handedIn (n + 1) (appended l n key flag rs) ≡ handedIn n rs + cond (eqb (digit flag 1) 1) 1 0
+unfolding handedIn isHanded appended
+handed-more l n key flag rs h =
+    let new : ℕ → Bool = λ i. eqb (digit (getD (set (rs .flags) n flag) i 0) 1) 1 in
+    let old : ℕ → Bool = λ i. eqb (digit (getD (rs .flags) i 0) 1) 1 in
+    number-more n new
+    ∙ ap₂ (λ x y. x + y)
+    (number-same n new old (λ i q. ap (λ x. eqb (digit x 1) 1) (getD-set-other (rs .flags) n i flag 0 (λ e. omega arith))))
+    (ap (λ x. cond (eqb (digit x 1) 1) 1 0) (getD-set-same (rs .flags) n flag 0 h))

@@ -1,6 +1,6 @@
 -- The found flows: 01 'A session', "a lent list of 2 N flow records, each with key, count, known or unknown, peeled or handed".
 use mathlib.Core.Path.{_≡_}
-use mathlib.Core.Bool.{Bool}
+use mathlib.Core.Bool.{Bool, not}
 use mathlib.Core.List.{List}
 use Prim.Native.Nat.{ℕ, _*_}
 use lib.Bits.{bitOr}
@@ -8,7 +8,7 @@ use lib.Dec.{eqb}
 use lib.ListN.{length, getD, set, take, drop}
 use lib.Seq.{sets}
 use Rattle.laws.specs.Digit.{digit}
-use Rattle.laws.specs.Upto.{anyUpto, allUpto}
+use Rattle.laws.specs.Upto.{anyUpto, allUpto, numberUpto}
 use Rattle.layout.specs.declared.Layout.{Layout}
 
 -- the records as three lists: keys one after the other, counts, and flags (bit 0 known, bit 1 handed)
@@ -36,6 +36,13 @@ isKnown rs i = eqb (digit (getD (rs .flags) i 0) 0) 1
 
 unfoldable pub isHanded : Records → ℕ → Bool
 isHanded rs i = eqb (digit (getD (rs .flags) i 0) 1) 1
+
+-- how many of the first n flows were handed over, and how many were peeled
+unfoldable pub handedIn : ℕ → Records → ℕ
+handedIn n rs = numberUpto n (isHanded rs)
+
+unfoldable pub peeledIn : ℕ → Records → ℕ
+peeledIn n rs = numberUpto n (λ i. not (isHanded rs i))
 
 -- two keys of one length are the same
 unfoldable pub sameBytes : List ℕ → List ℕ → Bool

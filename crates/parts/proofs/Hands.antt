@@ -1,38 +1,31 @@
 -- Keys handed over one after the other: what each needs holds again after it, and what is left is what the definition says.
-use mathlib.Core.Path.{_≡_, refl, sym, ap, ap₂, subst, _∙_}
-use mathlib.Core.Bool.{cond}
+use mathlib.Core.Path.{_≡_, refl, sym, ap, subst, _∙_}
 use mathlib.Core.List.{List}
-use mathlib.Core.Logic.{_⊎_, inl, inr}
 use Prim.Native.Nat.{ℕ, zero, suc, _+_, _-_, _*_, _≤_, _<_}
 use native.Mathlib.Omega.{arith}
-use borrow.Author.Tests.{leb-true}
-use lib.Dec.{leb}
 use lib.ListN.{length}
 use Rattle.laws.specs.Upto.{eachUpto}
-use Rattle.laws.proofs.Bools.{split}
 use Rattle.laws.proofs.Upto.{each-same}
 use Rattle.layout.specs.declared.Layout.{Layout}
 use Rattle.layout.specs.declared.Sizes.{Sizes}
-use Rattle.layout.specs.Sizes.{tableCells, filterBytes}
-use Rattle.list.specs.Records.{Records, keyAt}
-use Rattle.peeling.specs.Peel.{Fits}
-use Rattle.test8.specs.Test8.{handedIn}
+use Rattle.layout.specs.Sizes.{filterBytes}
+use Rattle.list.specs.Records.{Records, keyAt, handedIn}
+use Rattle.peeling.specs.Peel.{Steady}
 use Rattle.handing.specs.declared.Handed.{Handed}
 use Rattle.handing.specs.declared.Handed.the-variants.{Taken, NotInFilter, Listed, EmptyCell, TooMany}
 use Rattle.handing.specs.Hand.{Handing, handing, handOf, takenBy, handNumber, Hands, twelveBy}
-use Rattle.handing.proofs.Laws.{hand-kept, hand-fits, hand-handed}
+use Rattle.handing.proofs.Laws.{hand-kept, hand-fits, hand-bounded, hand-handed}
 use Rattle.parts.specs.Sides.{Switch, switch, Given, given, afterHand, handAt, handKeys}
 
 -- ---- one session, without the areas
 module _ (l : Layout) (z : Sizes) (salt : ℕ) (filter : List ℕ) where
   -- a session that another key can be handed to
-  pub record Ready (g : Given) : Type 0 where
-    pub fits : Fits l z salt (g .listed) (g .table) (g .list) (g .seen)
-    pub room : g .listed ≤ handedIn (g .listed) (g .list) + tableCells l z
+  abbrev pub Ready : Given → Type 0
+  Ready g = Steady l z salt (g .listed) (g .table) (g .list) (g .seen)
 
   pub ready-hands : length filter ≡ filterBytes z → (g : Given) → Ready g → (key : List ℕ) → length key ≡ l .key
       → Hands l z salt (g .listed) (handedIn (g .listed) (g .list)) key filter (g .table) (g .list) (g .seen)
-  ready-hands f g r key k = record { fits = r .fits; filter-fits = f; key-fits = k; handed-is = refl; room = r .room }
+  ready-hands f g r key k = record { steady = r; filter-fits = f; key-fits = k; handed-is = refl }
 
   module _ (f : length filter ≡ filterBytes z) (g : Given) (r : Ready g) (key : List ℕ) (k : length key ≡ l .key) where
     abbrev pub o : Handing
@@ -50,10 +43,7 @@ module _ (l : Layout) (z : Sizes) (salt : ℕ) (filter : List ℕ) where
         let stays : handing a (g .table) (g .list) (g .seen) ≡ o = sym (same ∙ ap (λ b. handing b (g .table) (g .list) (g .seen)) e) in
         let m : g .listed ≡ g .listed + takenBy a = omega (arith, none) in
         subst (Onward a) stays record {
-          again = record {
-            fits = subst (λ n. Fits l z salt n (g .table) (g .list) (g .seen)) m (r .fits);
-            room = subst (λ n. n ≤ handedIn n (g .list) + tableCells l z) m (r .room);
-          };
+          again = subst (λ n. Steady l z salt n (g .table) (g .list) (g .seen)) m r;
           handed = ap (λ n. handedIn n (g .list)) (sym m) ∙ omega (arith, none);
         }
 
@@ -61,14 +51,14 @@ module _ (l : Layout) (z : Sizes) (salt : ℕ) (filter : List ℕ) where
     onward Taken e =
         let h = ready-hands f g r key k in
         let one : takenBy (o .answer) ≡ 1 = ap takenBy e in
-        let fits = hand-fits l z salt (g .listed) key filter (g .table) (g .list) (g .seen) refl h e in
+        let steady : Steady l z salt (g .listed + 1) (o .table) (o .list) (o .seen) = record {
+          fits = hand-fits l z salt (g .listed) key filter (g .table) (g .list) (g .seen) refl h e;
+          bounded = hand-bounded l z salt (g .listed) key filter (g .table) (g .list) (g .seen) refl h e;
+        } in
         let more = hand-handed l z salt (g .listed) key filter (g .table) (g .list) (g .seen) refl h e in
         let back : g .listed + 1 ≡ g .listed + takenBy (o .answer) = ap (λ n. g .listed + n) (sym one) in
         record {
-          again = record {
-            fits = subst (λ n. Fits l z salt n (o .table) (o .list) (o .seen)) back fits;
-            room = subst (λ n. n ≤ handedIn n (o .list) + tableCells l z) back (rw more (omega (arith, r .room)));
-          };
+          again = subst (λ n. Steady l z salt n (o .table) (o .list) (o .seen)) back steady;
           handed = ap (λ n. handedIn n (o .list)) (sym back) ∙ more;
         }
     onward NotInFilter e = kept NotInFilter (omega arith) refl e
@@ -100,10 +90,7 @@ module _ (l : Layout) (z : Sizes) (salt : ℕ) (filter keys : List ℕ) (m : ℕ
 
   pub twelves-list : (g : Given) → handKeys l w filter keys m g .twelves ≤ g .twelves + m
   unfolding handKeys
-  twelves-list g = elim (split (leb (g .listed) (handedIn (g .listed) (g .list) + tableCells l z))) [
-    | inl h ↦ rw h (twelves-upto g m)
-    | inr h ↦ rw h (omega arith)
-  ]
+  twelves-list g = twelves-upto g m
 
   module _ (f : length filter ≡ filterBytes z) (sized : (i : ℕ) → i < m → length (keyAt l keys i) ≡ l .key) (g : Given) where
     pub ready-upto : Ready l z salt filter g → (i : ℕ) → i ≤ m → Ready l z salt filter (eachUpto i (handAt l w filter keys) g)
@@ -112,14 +99,10 @@ module _ (l : Layout) (z : Sizes) (salt : ℕ) (filter keys : List ℕ) (m : ℕ
     ready-upto r (suc i) h =
         hand-onward l z salt filter f (eachUpto i (handAt l w filter keys) g) (ready-upto r i (omega arith)) (keyAt l keys i) (sized i (omega arith)) .again
 
-    -- what keys leave of a session, all fits again
-    pub keys-fits : Fits l z salt (g .listed) (g .table) (g .list) (g .seen)
-        → let o = handKeys l w filter keys m g in Fits l z salt (o .listed) (o .table) (o .list) (o .seen)
+    -- and so after all of them
+    pub keys-ready : Ready l z salt filter g → Ready l z salt filter (handKeys l w filter keys m g)
     unfolding handKeys
-    keys-fits r = elim (split (leb (g .listed) (handedIn (g .listed) (g .list) + tableCells l z))) [
-      | inl h ↦ rw h (ready-upto (record { fits = r; room = leb-true (g .listed) (handedIn (g .listed) (g .list) + tableCells l z) h }) m (omega arith) .fits)
-      | inr h ↦ rw h r
-    ]
+    keys-ready r = ready-upto r m (omega arith)
 
 alike-at : (l : Layout) (w : Switch) (filter ks ks′ : List ℕ) (m : ℕ) → ((i : ℕ) → i < m → keyAt l ks i ≡ keyAt l ks′ i)
     → (i : ℕ) (g : Given) → i < m → handAt l w filter ks i g ≡ handAt l w filter ks′ i g
@@ -132,5 +115,4 @@ pub keys-alike : (l : Layout) (w : Switch) (filter ks ks′ : List ℕ) (m : ℕ
     → handKeys l w filter ks m g ≡ handKeys l w filter ks′ m g
 unfolding handKeys
 keys-alike l w filter ks ks′ m g h =
-    ap (λ (x : Given). cond (leb (g .listed) (handedIn (g .listed) (g .list) + tableCells l (w .sizes))) x g)
-    (each-same m (handAt l w filter ks) (handAt l w filter ks′) g (alike-at l w filter ks ks′ m h))
+    each-same m (handAt l w filter ks) (handAt l w filter ks′) g (alike-at l w filter ks ks′ m h)

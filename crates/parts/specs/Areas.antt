@@ -4,18 +4,17 @@ use mathlib.Core.Logic.{_⊎_}
 use mathlib.Core.Path.{_≡_}
 use Prim.Native.Nat.{ℕ, _+_, _-_, _*_, _≤_}
 use lib.ListN.{length, take, drop}
-use Rattle.laws.specs.Upto.{eachUpto}
 use Rattle.layout.specs.declared.Layout.{Layout}
 use Rattle.layout.specs.declared.Sizes.{Sizes}
 use Rattle.layout.specs.Sizes.{tableCells, filterBytes}
 use Rattle.list.specs.Records.{Records, records}
 use Rattle.marks.specs.Marks.{wordsFor}
 use Rattle.table.specs.Table.{Tab, tab}
-use Rattle.peeling.specs.Peel.{Fits}
+use Rattle.peeling.specs.Peel.{Steady}
 use Rattle.peeling.specs.declared.Stop.{Stop}
 use Rattle.handing.specs.Hand.{Handing, handing, handOf}
 use Rattle.parts.specs.declared.Place.{Place}
-use Rattle.parts.specs.Sides.{Switch, Side, side, Given, given, handAt, handKeys, settleSide}
+use Rattle.parts.specs.Sides.{Switch, Side, side, Given, given, handKeys, settleSide}
 
 -- the place of the first session
 abbrev pub origin : Place
@@ -113,17 +112,12 @@ givenIn a e t rs seen g =
 
 -- a session of the part after i of the keys that begin at a place in the area of keys
 unfoldable pub givenUpto : Layout → Switch → Place → Place → ℕ → ℕ → ℕ → List ℕ → Tab → Records → List ℕ → Given
-givenUpto l w a e n from i filter t rs seen = eachUpto i (handAt l w (between (a .filter) (e .filter) filter) (drop from (rs .keys)))
+givenUpto l w a e n from i filter t rs seen = handKeys l w (between (a .filter) (e .filter) filter) (drop from (rs .keys)) i
     (given n 0 (tableAt a e t) (listAt a e rs) (between (a .seen) (e .seen) seen))
-
-unfoldable pub giveEach : Layout → Switch → Place → Place → ℕ → ℕ → ℕ → List ℕ → Tab → Records → List ℕ → Given
-giveEach l w a e n from m filter t rs seen = givenIn a e t rs seen (givenUpto l w a e n from m filter t rs seen)
 
 -- the first m of these keys handed over in order
 unfoldable pub givePart : Layout → Switch → Place → Place → ℕ → ℕ → ℕ → List ℕ → Tab → Records → List ℕ → Given
-givePart l w a e n from m filter t rs seen =
-    givenIn a e t rs seen (handKeys l w (between (a .filter) (e .filter) filter) (drop from (rs .keys)) m
-    (given n 0 (tableAt a e t) (listAt a e rs) (between (a .seen) (e .seen) seen)))
+givePart l w a e n from m filter t rs seen = givenIn a e t rs seen (givenUpto l w a e n from m filter t rs seen)
 
 -- ---- what the code needs: the part lies in the areas, which hold at most eight sessions
 pub record Inside (a e : Place) (t : Tab) (rs : Records) (seen : List ℕ) : Type 0 where
@@ -154,7 +148,7 @@ pub record Gives (l : Layout) (z : Sizes) (salt : ℕ) (a e : Place) (n from m :
   pub filter-up : a .filter ≤ e .filter
   pub filter-in : e .filter ≤ length filter
   pub filter-fits : length (between (a .filter) (e .filter) filter) ≡ filterBytes z
-  pub fits : Fits l z salt n (tableAt a e t) (listAt a e rs) (between (a .seen) (e .seen) seen)
+  pub steady : Steady l z salt n (tableAt a e t) (listAt a e rs) (between (a .seen) (e .seen) seen)
   pub keys-in : from + m * l .key ≤ length (rs .keys)
   pub keys-few : from + m * l .key ≤ 16777216
   pub few : m ≤ 65536

@@ -1,9 +1,7 @@
 -- One of the sessions of an exchange: 01 'A session', Exchange.
 use mathlib.Core.Path.{_≡_}
-use mathlib.Core.Bool.{cond}
 use mathlib.Core.List.{List}
 use Prim.Native.Nat.{ℕ, _+_}
-use lib.Dec.{leb}
 use lib.ListN.{length}
 use Rattle.laws.specs.Upto.{eachUpto}
 use Rattle.layout.specs.declared.Layout.{Layout}
@@ -11,9 +9,8 @@ use Rattle.layout.specs.declared.Sizes.{Sizes}
 use Rattle.layout.specs.Sizes.{tableCells}
 use Rattle.list.specs.Records.{Records, keyAt}
 use Rattle.table.specs.Table.{Tab}
-use Rattle.peeling.specs.Peel.{Fits, listedAt}
+use Rattle.peeling.specs.Peel.{Steady, listedAt}
 use Rattle.peeling.specs.declared.Stop.{Stop}
-use Rattle.test8.specs.Test8.{handedIn}
 use Rattle.settling.specs.Settle.{settleOf}
 use Rattle.handing.specs.Hand.{Handing, handOf, takenBy, twelveBy}
 
@@ -36,9 +33,9 @@ pub record Side : Type 0 where
 abbrev pub side : ℕ → Tab → List ℕ → Records → List ℕ → Side
 side n t packets rs seen = record { listed = n; table = t; packets = packets; list = rs; seen = seen }
 
--- the room that the steps need
+-- what the steps need
 pub record Stands (l : Layout) (w : Switch) (s : Side) : Type 0 where
-  pub fits : Fits l (w .sizes) (w .salt) (s .listed) (s .table) (s .list) (s .seen)
+  pub steady : Steady l (w .sizes) (w .salt) (s .listed) (s .table) (s .list) (s .seen)
   pub packets-fit : length (s .packets) ≡ tableCells l (w .sizes)
 
 -- ---- settling
@@ -72,11 +69,9 @@ afterHand g h = given (g .listed + takenBy (h .answer)) (g .twelves + twelveBy (
 unfoldable pub handAt : Layout → Switch → List ℕ → List ℕ → ℕ → Given → Given
 handAt l w filter keys i g = afterHand g (handOf l (w .sizes) (w .salt) (g .listed) (keyAt l keys i) filter (g .table) (g .list) (g .seen))
 
--- 01 'A session', Exchange: "hands A's list in order": its first m keys. A session that passed the test of 8 has no more peeled flows than cells;
--- where one had more, nothing is handed over, so that the list never runs out of room
+-- 01 'A session', Exchange: "hands A's list in order": its first m keys
 unfoldable pub handKeys : Layout → Switch → List ℕ → List ℕ → ℕ → Given → Given
-handKeys l w filter keys m g =
-    cond (leb (g .listed) (handedIn (g .listed) (g .list) + tableCells l (w .sizes))) (eachUpto m (handAt l w filter keys) g) g
+handKeys l w filter keys m g = eachUpto m (handAt l w filter keys) g
 
 unfoldable pub handList : Layout → Switch → List ℕ → List ℕ → ℕ → Side → Given
 handList l w filter keys m s = handKeys l w filter keys m (given (s .listed) 0 (s .table) (s .list) (s .seen))

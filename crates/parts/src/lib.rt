@@ -6,9 +6,9 @@ ghost use mathlib.Core.List.{[]};
 ghost use Prim.Native.Nat.{_+_, _-_, _*_, _≤_};
 ghost use lib.ListN.{length, take, drop};
 ghost use Rattle.layout.specs.Sizes.{Lays, Ranged, tableCells};
-ghost use Rattle.list.specs.Records.{records, Room};
+ghost use Rattle.list.specs.Records.{records, Room, handedIn};
 ghost use Rattle.table.specs.Table.{tab, Fit};
-ghost use Rattle.test8.specs.Test8.{overListed, isSession, handedIn};
+ghost use Rattle.test8.specs.Test8.{overListed, isSession};
 ghost use Rattle.index.specs.Index.{Empty};
 ghost use Rattle.test8.specs.Given.{seenUpto};
 ghost use Rattle.handing.specs.Hand.{handing, Hands};
@@ -27,7 +27,6 @@ ghost use Rattle.parts.specs.Areas.{
   settlePart,
   handPart,
   Gives,
-  giveEach,
   givePart,
 };
 use handing::Handed;
@@ -344,10 +343,10 @@ fn give_each(
 ) -> Tally
     requires { ⌜ Gives l z salt a e n from m (now filter) (tab (now xors) (now flows) (now unknowns) (now positions) (now marks))
         (records (now keys) (now counts) (now flags)) (now seen)
-        × (handed ≡ handedIn n (listAt a e (records (now keys) (now counts) (now flags)))) × (n ≤ handedIn n (listAt a e (records (now keys) (now counts) (now flags))) + tableCells l z) ⌝ }
+        × (handed ≡ handedIn n (listAt a e (records (now keys) (now counts) (now flags)))) ⌝ }
     ensures { λ r. ⌜ given (r .listed) (r .twelves) (tab (now (xors .exit)) (now (flows .exit)) (now (unknowns .exit)) (now (positions .exit)) (now (marks .exit)))
         (records (now (keys .exit)) (now (counts .exit)) (now (flags .exit))) (now (seen .exit))
-        ≡ giveEach l (switch z salt) a e n from m (now (filter .entry))
+        ≡ givePart l (switch z salt) a e n from m (now (filter .entry))
         (tab (now (xors .entry)) (now (flows .entry)) (now (unknowns .entry)) (now (positions .entry)) (now (marks .entry)))
         (records (now (keys .entry)) (now (counts .entry)) (now (flags .entry))) (now (seen .entry)) ⌝ }
 {
@@ -426,13 +425,6 @@ pub fn give(
         (tab (now (xors .entry)) (now (flows .entry)) (now (unknowns .entry)) (now (positions .entry)) (now (marks .entry)))
         (records (now (keys .entry)) (now (counts .entry)) (now (flags .entry))) (now (seen .entry)) ⌝ }
 {
-    let handed = handed_in(a, e, n, flags);
-    if handed + layout::table_cells(l, z) < n {
-        return Tally {
-            listed: n,
-            twelves: 0,
-        };
-    }
     give_each(
         l,
         z,
@@ -440,7 +432,7 @@ pub fn give(
         a,
         e,
         n,
-        handed,
+        handed_in(a, e, n, flags),
         from,
         m,
         filter,

@@ -1,12 +1,12 @@
 -- What the code finds on each way through a peel is what the definition says, and what a peel keeps.
-use mathlib.Core.Path.{_≡_, ap, ap₂, _∙_}
+use mathlib.Core.Path.{_≡_, refl, ap, ap₂, _∙_}
 use mathlib.Core.Bool.{Bool, true, false, _||_}
 use mathlib.Core.List.{List}
 use mathlib.Core.Logic.{inl, inr}
 use Prim.Native.Nat.{ℕ, _+_, _-_, _*_, _<_, _≤_}
 use native.Mathlib.Omega.{arith}
-use borrow.Author.Tests.{le-ltb, lt-ltb, le-leb, lt-leb, leb-false, ltb-true}
-use lib.Dec.{leb, ltb}
+use borrow.Author.Tests.{le-ltb, lt-ltb, ltb-true}
+use lib.Dec.{ltb}
 use lib.ListN.{length}
 use Rattle.hash.proofs.Apart.{places-within}
 use Rattle.laws.specs.Upto.{listUpto}
@@ -20,12 +20,13 @@ use Rattle.list.specs.Records.{Records, Room, keyAt, isListed, appended}
 use Rattle.list.proofs.Laws.{length-key, key-inside, key-appended, room-appended}
 use Rattle.index.specs.Index.{linked}
 use Rattle.marks.specs.Marks.{firstMark}
-use Rattle.table.specs.Table.{Tab, Fit, InBytes, anyEmpty, hasEmpty, takenOut}
+use Rattle.table.specs.Table.{Tab, Fit, InBytes, anyEmpty, hasEmpty, takenOut, Bounded}
 use Rattle.found.specs.Seen.{bucket, bucketOf, LeadsTo}
-use Rattle.peeling.specs.Peel.{Fits, peeled, peelDamaged, peelTaken, peelAt, peelOf}
+use Rattle.peeling.specs.Peel.{Fits, PeelRoom, peeled, peelDamaged, peelTaken, peelAt, peelOf}
 use Rattle.peeling.specs.declared.Step.{Step}
-use Rattle.peeling.specs.declared.Step.the-variants.{Quiet, Full, Damaged, Next}
+use Rattle.peeling.specs.declared.Step.the-variants.{Quiet, Damaged, Next}
 use Rattle.table.proofs.Table.{empty-is, fit-out}
+use Rattle.table.proofs.Bounds.{peel-room, bounded-peeled}
 use Rattle.found.proofs.Seen.{leads, covers-more}
 use Rattle.laws.proofs.Rows.{row-within}
 
@@ -49,7 +50,6 @@ back-inside l {m} n key flag rs r h q = rw q (key-inside n (room-appended l m n 
 abbrev pub listedAfter : ℕ → Step → ℕ
 listedAfter n Next = n + 1
 listedAfter n Quiet = n
-listedAfter n (Full c) = n
 listedAfter n (Damaged c) = n
 
 module _ (l : Layout) (z : Sizes) (salt n : ℕ) (t : Tab) (rs : Records) (seen : List ℕ) (f : Fits l z salt n t rs seen) where
@@ -82,11 +82,7 @@ module _ (l : Layout) (z : Sizes) (salt n : ℕ) (t : Tab) (rs : Records) (seen 
       unfolding peelOf
       from-mark = rw (lt-ltb (firstMark (t .marks)) (tableCells l z) (omega arith), d)
 
-      pub peel-full : 2 * cells ≤ n → peeled (Full c) t rs seen ≡ peelOf l z salt n t rs seen
-      unfolding peelAt
-      peel-full g = (rw (le-leb (2 * tableCells l z) n (omega arith)) at from-mark)
-
-      module _ (g : n < 2 * cells) {key at : List ℕ} (k : key ≡ keyAt l (t .xors) c) (a : at ≡ listUpto 4 (cellOf l z salt key)) {b : Bool}
+      module _ {key at : List ℕ} (k : key ≡ keyAt l (t .xors) c) (a : at ≡ listUpto 4 (cellOf l z salt key)) {b : Bool}
           (p : b ≡ (isListed l n (rs .keys) key || anyEmpty at (z .k) (t .flows))) where
         damage-is : b ≡ peelDamaged l z salt n (t .flows) (rs .keys) (keyAt l (t .xors) c)
         unfolding peelDamaged
@@ -96,7 +92,7 @@ module _ (l : Layout) (z : Sizes) (salt n : ℕ) (t : Tab) (rs : Records) (seen 
 
         pub peel-damaged : b ≡ true → peeled (Damaged c) t rs seen ≡ peelOf l z salt n t rs seen
         unfolding peelAt
-        peel-damaged q = (rw (lt-leb (2 * tableCells l z) n (omega arith), ← damage-is, q) at from-mark)
+        peel-damaged q = (rw (← damage-is, q) at from-mark)
 
         pub peel-taken : {t′ : Tab} {rs′ : Records} {seen′ key′ : List ℕ} {own : ℕ} → b ≡ false → rs′ ≡ appended l n key 0 rs
             → own ≡ bucket at → seen′ ≡ linked seen own n → key′ ≡ key → t′ ≡ takenOut l z salt key′ n t
@@ -108,7 +104,7 @@ module _ (l : Layout) (z : Sizes) (salt n : ℕ) (t : Tab) (rs : Records) (seen 
             let own-is : own ≡ bucketOf l z salt (keyAt l (t .xors) c) = v ∙ ap bucket a ∙ ap (bucketOf l z salt) k in
             let seen-is : seen′ ≡ linked seen (bucketOf l z salt (keyAt l (t .xors) c)) n = w ∙ ap (λ m. linked seen m n) own-is in
             ap (λ m. peeled Next m rs′ seen′) t-is ∙ ap₂ (λ m o. peeled Next (takenOut l z salt (keyAt l (t .xors) c) n t) m o) rs-is seen-is
-            ∙ (rw (lt-leb (2 * tableCells l z) n (omega arith), ← damage-is, q) at from-mark)
+            ∙ (rw (← damage-is, q) at from-mark)
 
   -- ---- what a peel keeps
   fits-taken : (c : ℕ) → c < tableCells l z → n < 2 * tableCells l z
@@ -126,17 +122,34 @@ module _ (l : Layout) (z : Sizes) (salt n : ℕ) (t : Tab) (rs : Records) (seen 
       }
 
   -- whatever the step does, all fits again
-  pub fits-step : let p = peelOf l z salt n t rs seen in Fits l z salt (listedAfter n (p .answer)) (p .table) (p .list) (p .seen)
+  pub fits-step : PeelRoom l z n t → let p = peelOf l z salt n t rs seen in Fits l z salt (listedAfter n (p .answer)) (p .table) (p .list) (p .seen)
   unfolding peelOf peelAt
-  fits-step =
+  fits-step room =
       let c = firstMark (t .marks) in
       elim (split (ltb c (tableCells l z))) [
         | inr p ↦ rw p f
-        | inl p ↦ elim (split (leb (2 * tableCells l z) n)) [
-          | inl q ↦ rw (p, q) f
-          | inr q ↦ elim (split (peelDamaged l z salt n (t .flows) (rs .keys) (keyAt l (t .xors) c))) [
-            | inl r ↦ rw (p, q, r) f
-            | inr r ↦ rw (p, q, r) (fits-taken c (ltb-true c (tableCells l z) p) (leb-false (2 * tableCells l z) n q))
-          ]
+        | inl p ↦ elim (split (peelDamaged l z salt n (t .flows) (rs .keys) (keyAt l (t .xors) c))) [
+          | inl r ↦ rw (p, r) f
+          | inr r ↦ (let h = ltb-true c (tableCells l z) p in rw (p, r) (fits-taken c h (room h)))
         ]
       ]
+
+  -- marks and numbers as the test of 8 has them: there is room for a peel, and it leaves them so
+  module _ (b : Bounded l z salt n t rs) where
+    pub has-room : PeelRoom l z n t
+    has-room = peel-room l z salt n t rs b (f .table)
+
+    pub bounded-step : let p = peelOf l z salt n t rs seen in Bounded l z salt (listedAfter n (p .answer)) (p .table) (p .list)
+    unfolding peelOf peelAt peelTaken
+    bounded-step =
+        let c = firstMark (t .marks) in
+        elim (split (ltb c (tableCells l z))) [
+          | inr p ↦ rw p b
+          | inl p ↦ elim (split (peelDamaged l z salt n (t .flows) (rs .keys) (keyAt l (t .xors) c))) [
+            | inl r ↦ rw (p, r) b
+            | inr r ↦
+                (let h = ltb-true c (tableCells l z) p in
+                rw (p, r) (bounded-peeled l z salt n t rs b (f .table) (f .room) (keyAt l (t .xors) c)
+                (length-key l (t .xors) c (xor-inside c (f .table) h)) h refl))
+          ]
+        ]

@@ -1,4 +1,4 @@
--- Any two outcomes that the contract of a public function allows are identical. The contracts are those of src/, as the checker reads them.
+-- Any two outcomes that the contract of a public function, or of one peel, allows are identical. The contracts are those of src/, as the checker reads them.
 use mathlib.Core.Path.{refl, sym, ap, _∙_}
 use Rattle.laws.specs.Outcomes.{Determined}
 use Rattle.laws.proofs.Outcomes.{both}

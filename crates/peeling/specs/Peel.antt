@@ -1,18 +1,18 @@
 -- One peel for any marks, and peeling while a cell is marked: 01 'A session', Settle and Damage.
 use mathlib.Core.Bool.{Bool, cond, _||_}
 use mathlib.Core.List.{List}
-use Prim.Native.Nat.{ℕ, zero, suc, _+_, _-_, _*_, _≤_}
-use lib.Dec.{ltb, leb}
+use Prim.Native.Nat.{ℕ, zero, suc, _+_, _-_, _*_, _≤_, _<_}
+use lib.Dec.{ltb}
 use Rattle.layout.specs.declared.Layout.{Layout}
 use Rattle.layout.specs.declared.Sizes.{Sizes}
 use Rattle.layout.specs.Sizes.{tableCells}
 use Rattle.list.specs.Records.{Records, Room, keyAt, isListed, appended}
 use Rattle.index.specs.Index.{linked}
 use Rattle.marks.specs.Marks.{firstMark}
-use Rattle.table.specs.Table.{Tab, Fit, hasEmpty, takenOut}
+use Rattle.table.specs.Table.{Tab, Fit, hasEmpty, takenOut, Bounded}
 use Rattle.found.specs.Seen.{bucketOf, Covers}
 use Rattle.peeling.specs.declared.Step.{Step}
-use Rattle.peeling.specs.declared.Step.the-variants.{Quiet, Full, Damaged, Next}
+use Rattle.peeling.specs.declared.Step.the-variants.{Quiet, Damaged, Next}
 use Rattle.peeling.specs.declared.Stop.{Stop}
 use Rattle.peeling.specs.declared.Stop.the-variants as stop
 
@@ -22,6 +22,15 @@ pub record Fits (l : Layout) (z : Sizes) (salt n : ℕ) (t : Tab) (rs : Records)
   pub room : Room l (2 * tableCells l z) rs
   pub listed : n ≤ 2 * tableCells l z
   pub covers : Covers l z salt n (rs .keys) seen
+
+-- with marks and numbers as the test of 8 has them: what settling and hand-overs need, and keep
+pub record Steady (l : Layout) (z : Sizes) (salt n : ℕ) (t : Tab) (rs : Records) (seen : List ℕ) : Type 0 where
+  pub fits : Fits l z salt n t rs seen
+  pub bounded : Bounded l z salt n t rs
+
+-- 01 'A session': "where the list has room": a peel asks it, and only where a cell is marked, since else nothing is listed
+abbrev pub PeelRoom : Layout → Sizes → ℕ → Tab → Type 0
+PeelRoom l z n t = firstMark (t .marks) < tableCells l z → n < 2 * tableCells l z
 
 -- ---- one peel
 
@@ -43,12 +52,11 @@ unfoldable pub peelTaken : Layout → Sizes → ℕ → ℕ → List ℕ → Tab
 peelTaken l z salt n key t rs seen =
     peeled Next (takenOut l z salt key n t) (appended l n key 0 rs) (linked seen (bucketOf l z salt key) n)
 
--- the peel from a marked cell. 01 'A session': "13 is given before a peel, ahead of 14, when 2 N flows are listed"
+-- the peel from a marked cell
 unfoldable pub peelAt : Layout → Sizes → ℕ → ℕ → Tab → Records → List ℕ → ℕ → Peeled
 peelAt l z salt n t rs seen c =
-    cond (leb (2 * tableCells l z) n) (peeled (Full c) t rs seen)
-    (cond (peelDamaged l z salt n (t .flows) (rs .keys) (keyAt l (t .xors) c)) (peeled (Damaged c) t rs seen)
-    (peelTaken l z salt n (keyAt l (t .xors) c) t rs seen))
+    cond (peelDamaged l z salt n (t .flows) (rs .keys) (keyAt l (t .xors) c)) (peeled (Damaged c) t rs seen)
+    (peelTaken l z salt n (keyAt l (t .xors) c) t rs seen)
 
 -- 01 'A session': "it starts from the lowest one set"
 unfoldable pub peelOf : Layout → Sizes → ℕ → ℕ → Tab → Records → List ℕ → Peeled
@@ -69,7 +77,6 @@ ended answer t rs seen = record { answer = answer; table = t; list = rs; seen = 
 -- how it ends where n flows are listed and the step is not a peel
 abbrev pub stopAt : ℕ → Step → Stop
 stopAt n Quiet = stop.Done n
-stopAt n (Full c) = stop.Full n c
 stopAt n (Damaged c) = stop.Damaged n c
 stopAt n Next = stop.Done n
 
@@ -77,7 +84,6 @@ stopAt n Next = stop.Done n
 unfoldable pub afterPeel : (Tab → Records → List ℕ → Ended) → ℕ → Step → Tab → Records → List ℕ → Ended
 afterPeel more n Next t rs seen = more t rs seen
 afterPeel more n Quiet t rs seen = ended (stopAt n Quiet) t rs seen
-afterPeel more n (Full c) t rs seen = ended (stopAt n (Full c)) t rs seen
 afterPeel more n (Damaged c) t rs seen = ended (stopAt n (Damaged c)) t rs seen
 
 -- at most so many peels
@@ -94,10 +100,8 @@ peelsOf l z salt n t rs seen = peelsUpto (suc (2 * tableCells l z - n)) l z salt
 -- the listed flows and the cell that a stop names, and 01's number for it
 abbrev pub listedAt : Stop → ℕ
 listedAt (stop.Done n) = n
-listedAt (stop.Full n c) = n
 listedAt (stop.Damaged n c) = n
 
 abbrev pub stopNumber : Stop → ℕ
 stopNumber (stop.Done n) = 0
-stopNumber (stop.Full n c) = 13
 stopNumber (stop.Damaged n c) = 14

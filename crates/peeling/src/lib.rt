@@ -8,7 +8,7 @@ ghost use Rattle.hash.specs.Places.{Within};
 ghost use Rattle.list.specs.Records.{records, isListed};
 ghost use Rattle.table.specs.Table.{tab, anyEmpty};
 ghost use Rattle.found.specs.Seen.{bucket, LeadsTo};
-ghost use Rattle.peeling.specs.Peel.{Fits, peeled, peelOf, stopAt, ended, peelsOf};
+ghost use Rattle.peeling.specs.Peel.{Fits, Steady, PeelRoom, peeled, peelOf, stopAt, ended, peelsOf};
 use hash::Cells;
 use layout::Layout;
 use layout::Sizes;
@@ -34,16 +34,15 @@ fn is_damaged(
     table::any_empty(at, k, flows)
 }
 
-// What one step of peeling does: no cell is marked; 13 or 14 with the marked cell; a flow is taken out.
+// What one step of peeling does: no cell is marked; 14 with the marked cell; a flow is taken out.
 pub enum Step {
     Quiet,
-    Full(usize),
     Damaged(usize),
     Next,
 }
 
-// One peel from the lowest mark, for any marks. n flows are listed.
-pub fn peel(
+// One peel from the lowest mark, for any marks, where the list has room. n flows are listed.
+fn peel(
     l: Layout,
     z: Sizes,
     salt: u32,
@@ -59,7 +58,8 @@ pub fn peel(
     seen: &mut [u16],
 ) -> Step
     requires { ⌜ Fits l z salt n (tab (now xors) (now flows) (now unknowns) (now positions) (now marks))
-        (records (now keys) (now counts) (now flags)) (now seen) ⌝ }
+        (records (now keys) (now counts) (now flags)) (now seen)
+        × PeelRoom l z n (tab (now xors) (now flows) (now unknowns) (now positions) (now marks)) ⌝ }
     ensures { λ r. ⌜ peeled r (tab (now (xors .exit)) (now (flows .exit)) (now (unknowns .exit)) (now (positions .exit)) (now (marks .exit)))
         (records (now (keys .exit)) (now (counts .exit)) (now (flags .exit))) (now (seen .exit))
         ≡ peelOf l z salt n
@@ -70,9 +70,6 @@ pub fn peel(
     let c = marks::first_mark(marks);
     if c >= cells {
         return Step::Quiet;
-    }
-    if n >= 2 * cells {
-        return Step::Full(c);
     }
     let a = c * l.key;
     let e = a + l.key;
@@ -100,10 +97,9 @@ pub fn peel(
     Step::Next
 }
 
-// How peeling ended: the flows that are then listed, and for 13 and 14 the marked cell.
+// How peeling ended: the flows that are then listed, and for 14 the marked cell.
 pub enum Stop {
     Done { listed: usize },
-    Full { listed: usize, cell: usize },
     Damaged { listed: usize, cell: usize },
 }
 
@@ -113,13 +109,12 @@ fn stop_at(n: usize, s: Step) -> Stop
 {
     match s {
         Step::Quiet => Stop::Done { listed: n },
-        Step::Full(c) => Stop::Full { listed: n, cell: c },
         Step::Damaged(c) => Stop::Damaged { listed: n, cell: c },
         Step::Next => Stop::Done { listed: n },
     }
 }
 
-// Peels while a cell is marked. n flows are listed at first.
+// Peels while a cell is marked. n flows are listed at first; marks and numbers are as the test of 8 has them, so that no peel finds the list full.
 pub fn peels(
     l: Layout,
     z: Sizes,
@@ -135,7 +130,7 @@ pub fn peels(
     flags: &mut [u8],
     seen: &mut [u16],
 ) -> Stop
-    requires { ⌜ Fits l z salt n (tab (now xors) (now flows) (now unknowns) (now positions) (now marks))
+    requires { ⌜ Steady l z salt n (tab (now xors) (now flows) (now unknowns) (now positions) (now marks))
         (records (now keys) (now counts) (now flags)) (now seen) ⌝ }
     ensures { λ r. ⌜ ended r (tab (now (xors .exit)) (now (flows .exit)) (now (unknowns .exit)) (now (positions .exit)) (now (marks .exit)))
         (records (now (keys .exit)) (now (counts .exit)) (now (flags .exit))) (now (seen .exit))

@@ -30,7 +30,7 @@ use Rattle.reading.proofs.Accepts.{accepted}
 use Rattle.image.proofs.Back.{read-back}
 use Rattle.list.specs.Records.{Records}
 use Rattle.marks.specs.Marks.{wordsFor, putMark, firstMark}
-use Rattle.table.specs.Table.{Tab}
+use Rattle.table.specs.Table.{Tab, openIn}
 use Rattle.peeling.specs.Peel.{peeled, peelOf, ended, afterPeel, peelsUpto, peelsOf}
 use Rattle.peeling.specs.declared.Step.the-variants as step
 use Rattle.peeling.specs.declared.Stop.the-variants as stop
@@ -43,7 +43,6 @@ use Rattle.room.specs.Memory.{Memory, memory}
 use Rattle.room.proofs.Laws.{rooms-asked}
 use Rattle.opening.specs.Open.{xorsIn, flowsIn, marksOf, openedMemory}
 use Rattle.opening.proofs.Answers.{opened-rooms, opened-session}
-use Rattle.test8.specs.Test8.{openIn}
 use Rattle.summary.specs.declared.Report.{Report}
 use Rattle.summary.specs.declared.State.the-variants.{Whole}
 use Rattle.summary.specs.Report.{countedIn, reportOf}

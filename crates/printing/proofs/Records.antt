@@ -17,8 +17,8 @@ use Rattle.packet.specs.declared.Key.{Key}
 use Rattle.packet.specs.Key.{keyFrom}
 use Rattle.packet.proofs.KeyBytes.{from-in-range}
 use Rattle.list.specs.Records.{Records, keyAt, isKnown}
+use Rattle.table.specs.Table.{openIn}
 use Rattle.test8.specs.Given.{flagSet}
-use Rattle.test8.specs.Test8.{openIn}
 use Rattle.summary.specs.declared.Report.{Report}
 use Rattle.summary.specs.Report.{countedIn, reportOf}
 use Rattle.lines.specs.Text.{Put, flowLine, headLine}

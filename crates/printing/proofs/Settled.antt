@@ -13,11 +13,12 @@ use Rattle.layout.specs.declared.Sizes.{Sizes}
 use Rattle.layout.specs.Sizes.{Lays, inRange, ipv4Layout, tableCells}
 use Rattle.layout.proofs.Ranges.{table-high, lays-ipv4}
 use Rattle.list.specs.Records.{Records}
+use Rattle.marks.specs.Marks.{Words}
 use Rattle.table.specs.Table.{Tab}
-use Rattle.peeling.specs.Peel.{Fits, peelsOf, listedAt}
+use Rattle.peeling.specs.Peel.{Steady, peelsOf, listedAt}
 use Rattle.peeling.specs.declared.Stop.{Stop}
 use Rattle.peeling.specs.declared.Stop.the-variants as stop
-use Rattle.peeling.proofs.Loop.{ended-fits}
+use Rattle.peeling.proofs.Loop.{ended-keeps}
 use Rattle.counting.specs.declared.Stop as counting
 use Rattle.counting.specs.declared.Stop.the-variants as count
 use Rattle.counting.specs.Count.{countsOf}
@@ -34,7 +35,7 @@ use Rattle.session.specs.declared.Reported.the-variants as reported
 use Rattle.session.specs.Calls.{Settling, settlingTo, settleAnswer, settleLeaves, settleOf, settleNumber, reportOn, reportNumber, indexOf}
 use Rattle.summary.specs.declared.Report.{Report}
 use Rattle.summary.specs.Report.{reportOf}
-use Rattle.session.proofs.Answers.{Passes, rooms, listed-high, passes-fits}
+use Rattle.session.proofs.Answers.{Passes, rooms, listed-high, passes-steady}
 use Rattle.session.proofs.Laws.{settle-passes}
 use Rattle.session.proofs.Settled as declared
 use Rattle.lines.specs.Text.{refusedLine}
@@ -50,15 +51,14 @@ counts-listed : (l : Layout) (z : Sizes) (salt : ℕ) (packets : List ℕ) (t : 
 unfolding thenCounts afterCounts
 counts-listed l z salt packets t rs seen (stop.Done n) =
     after-listed n (countsOf l z salt n (t .flows) packets (t .unknowns) (t .positions) rs .answer)
-counts-listed l z salt packets t rs seen (stop.Full n c) = refl
 counts-listed l z salt packets t rs seen (stop.Damaged n c) = refl
 
-settle-high : (l : Layout) (z : Sizes) (salt n : ℕ) (t : Tab) (packets : List ℕ) (rs : Records) (seen : List ℕ) → Fits l z salt n t rs seen
+settle-high : (l : Layout) (z : Sizes) (salt n : ℕ) (t : Tab) (packets : List ℕ) (rs : Records) (seen : List ℕ) → Steady l z salt n t rs seen
     → listedAt (settling.settleOf l z salt n t packets rs seen .answer) ≤ 2 * tableCells l z
 unfolding settling.settleOf
-settle-high l z salt n t packets rs seen f =
+settle-high l z salt n t packets rs seen k =
     let p = peelsOf l z salt n t rs seen in
-    rw (counts-listed l z salt packets (p .table) (p .list) (p .seen) (p .answer)) (ended-fits l z salt n t rs seen f refl .listed)
+    rw (counts-listed l z salt packets (p .table) (p .list) (p .seen) (p .answer)) (ended-keeps l z salt n t rs seen k refl .fits .listed)
 
 -- ---- a session that was settled passed the tests
 module _ (l : Layout) (s : Session) (m : Memory) where
@@ -94,16 +94,15 @@ module _ (l : Layout) (s : Session) (m : Memory) where
       else-passes reported.NotSession reported.BadRoom (reported.Told (reportOf (s .listed) (m .table .flows) (m .list .flags))) e
       (λ q. absurd (omega (arith, ap reportNumber q))) (λ q. absurd (omega (arith, ap reportNumber q)))
 
-  done-high : {n : ℕ} → Lays l → settleOf l s m .answer ≡ settled.Done n → n ≤ 2 * tableCells l (s .sizes)
-  done-high {n} lays e =
+  done-high : {n : ℕ} → Lays l → Words (m .table .marks) → settleOf l s m .answer ≡ settled.Done n → n ≤ 2 * tableCells l (s .sizes)
+  done-high {n} lays w e =
       let p = done-passes e in
       let f = ap (λ (x : Settling). x .answer) (settle-passes l s m p) in
-      let h = settle-high l (s .sizes) (s .salt) (s .listed) (m .table) (m .packets) (m .list) (indexOf l s m) (passes-fits l s m lays p refl) in
+      let h = settle-high l (s .sizes) (s .salt) (s .listed) (m .table) (m .packets) (m .list) (indexOf l s m) (passes-steady l s m lays p w refl) in
       go (end .answer) (sym f ∙ e) h
     where
       go : (a : Stop) → settleAnswer a ≡ settled.Done n → listedAt a ≤ 2 * tableCells l (s .sizes) → n ≤ 2 * tableCells l (s .sizes)
       go (stop.Done k) q h = let i : k ≡ n = cc in omega arith
-      go (stop.Full k c) q h = absurd (omega (arith, ap settleNumber q))
       go (stop.Damaged k c) q h = absurd (omega (arith, ap settleNumber q))
 
 -- what a settled session of IPv4 keys has: cells and records enough for the lines
@@ -131,21 +130,20 @@ pub told-listed : (s : Session) (m : Memory) {t : Report} → reportOn ipv4Layou
 told-listed s m e =
     let p = told-passes ipv4Layout s m e in room-listed s m p (listed-high ipv4Layout s m lays-ipv4 p)
 
-refused-are : (slot salt : ℕ) (m : Memory) (e : Settled) → OneOf (1 ∷ 2 ∷ 3 ∷ 4 ∷ []) (tagOf declared.the-type e)
+refused-are : (slot salt : ℕ) (m : Memory) (e : Settled) → OneOf (1 ∷ 2 ∷ 3 ∷ []) (tagOf declared.the-type e)
     → refusedLine (settleNumber e) ≡ settledLines slot salt m e
 unfolding settledLines
 refused-are slot salt m (settled.Done n) h =
-    absurd (⊎-elim (λ q. omega arith) (λ o. ⊎-elim (λ q. omega arith) (λ o. ⊎-elim (λ q. omega arith) (λ q. omega arith) o) o) h)
-refused-are slot salt m (settled.Full n c) h = refl
+    absurd (⊎-elim (λ q. omega arith) (λ o. ⊎-elim (λ q. omega arith) (λ q. omega arith) o) h)
 refused-are slot salt m (settled.Damaged n c) h = refl
 refused-are slot salt m settled.NotSession h = refl
 refused-are slot salt m settled.BadRoom h = refl
 
 module _ (s : Session) (m : Memory) {e : Settled} {m′ : Memory} (q : settlingTo e m′ ≡ settleOf ipv4Layout s m) where
-  pub session-listed : {n : ℕ} → e ≡ settled.Done n → Listed n m
-  session-listed d =
+  pub session-listed : Words (m .table .marks) → {n : ℕ} → e ≡ settled.Done n → Listed n m
+  session-listed w d =
       let f = ap (λ (x : Settling). x .answer) (sym q) ∙ d in
-      room-listed s m (done-passes ipv4Layout s m f) (done-high ipv4Layout s m lays-ipv4 f)
+      room-listed s m (done-passes ipv4Layout s m f) (done-high ipv4Layout s m lays-ipv4 w f)
 
   lines-are : settledLines (s .slot) (s .salt) m′ e ≡ sessionLines s m
   unfolding sessionLines
@@ -155,5 +153,5 @@ module _ (s : Session) (m : Memory) {e : Settled} {m′ : Memory} (q : settlingT
   unfolding settledLines
   session-done d = rw d at lines-are
 
-  pub session-refused : {n : ℕ} → OneOf (1 ∷ 2 ∷ 3 ∷ 4 ∷ []) (tagOf declared.the-type e) → n ≡ settleNumber e → refusedLine n ≡ sessionLines s m
+  pub session-refused : {n : ℕ} → OneOf (1 ∷ 2 ∷ 3 ∷ []) (tagOf declared.the-type e) → n ≡ settleNumber e → refusedLine n ≡ sessionLines s m
   session-refused h i = ap refusedLine i ∙ refused-are (s .slot) (s .salt) m′ e h ∙ lines-are

@@ -38,7 +38,6 @@ listedLines slot salt n flows rs = headLine slot salt (reportOf n flows (rs .fla
 -- 01 'Printing program': "A refusal, 14 too, prints only `refused` and the number"; by what settling answers and leaves
 unfoldable pub settledLines : ℕ → ℕ → Memory → Settled → List ℕ
 settledLines slot salt m (settled.Done n) = listedLines slot salt n (m .table .flows) (m .list)
-settledLines slot salt m (settled.Full n c) = refusedLine (settleNumber (settled.Full n c))
 settledLines slot salt m (settled.Damaged n c) = refusedLine (settleNumber (settled.Damaged n c))
 settledLines slot salt m settled.NotSession = refusedLine (settleNumber settled.NotSession)
 settledLines slot salt m settled.BadRoom = refusedLine (settleNumber settled.BadRoom)

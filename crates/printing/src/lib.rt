@@ -109,7 +109,6 @@ fn settle_number(e: Settled) -> u8
 {
     match e {
         Settled::Done { listed: _ } => 0,
-        Settled::Full { listed: _, cell: _ } => 13,
         Settled::Damaged { listed: _, cell: _ } => 14,
         Settled::NotSession => 8,
         Settled::BadRoom => 16,

@@ -47,8 +47,8 @@ pub record Long (i j : Place) (s : Side) : Type 0 where
 pub stands-long : (l : Layout) (w : Switch) (i j : Place) (s : Side) → j ≡ placeAfter l (w .sizes) i → Stands l w s → Long i j s
 unfolding placeAfter
 stands-long l w i j s e h =
-    let t = h .fits .table in
-    let r = h .fits .room in
+    let t = h .steady .fits .table in
+    let r = h .steady .fits .room in
     record {
       fills = record {
         xors-fill = t .xors-fit ∙ omega (arith, ap (λ (p : Place). p .xors) e);
@@ -59,7 +59,7 @@ stands-long l w i j s e h =
         keys-fill = r .keys-fit ∙ omega (arith, ap (λ (p : Place). p .keys) e);
         counts-fill = r .counts-fit ∙ omega (arith, ap (λ (p : Place). p .records) e);
         flags-fill = r .flags-fit ∙ omega (arith, ap (λ (p : Place). p .records) e);
-        seen-fill = h .fits .covers .sized ∙ omega (arith, ap (λ (p : Place). p .seen) e);
+        seen-fill = h .steady .fits .covers .sized ∙ omega (arith, ap (λ (p : Place). p .seen) e);
       };
       packets-fill = h .packets-fit ∙ omega (arith, ap (λ (p : Place). p .cells) e);
     }
@@ -148,8 +148,8 @@ module _ (p : Place) (a b new : Side) (f : Long origin p a) where
 pub settled-stands : (l : Layout) (w : Switch) (s : Side) → Stands l w s → Stands l w (settleSide l w s .left)
 unfolding settleSide
 settled-stands l w s h =
-    let r = settle-lasts l (w .sizes) (w .salt) (s .listed) (s .table) (s .packets) (s .list) (s .seen) (h .fits) (h .packets-fit) in
-    record { fits = r .fits; packets-fit = r .packets-fit }
+    let r = settle-lasts l (w .sizes) (w .salt) (s .listed) (s .table) (s .packets) (s .list) (s .seen) (h .steady) (h .packets-fit) in
+    record { steady = r .steady; packets-fit = r .packets-fit }
 
 -- ---- steps
 module _ (l : Layout) (A B : Switch) (p e : Place) (seam-is : p ≡ placeAfter l (A .sizes) origin) (end-is : e ≡ placeAfter l (B .sizes) p) where

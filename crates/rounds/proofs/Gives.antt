@@ -17,9 +17,9 @@ use Rattle.table.specs.Table.{Tab}
 use Rattle.room.specs.declared.Session.{Session}
 use Rattle.parts.specs.declared.Place.{Place}
 use Rattle.parts.specs.Sides.{Switch, Side, Stands, Given, given, handKeys, handList, withGiven}
-use Rattle.parts.specs.Areas.{origin, placeAfter, between, laid, withTable, withList, Areas, areas, partAt, withPart, givePart, Gives}
+use Rattle.parts.specs.Areas.{origin, placeAfter, between, laid, withTable, withList, Areas, areas, partAt, withPart, givenUpto, givePart, Gives}
 use Rattle.parts.proofs.Areas.{length-between, laid-same}
-use Rattle.parts.proofs.Hands.{keys-fits, keys-alike, twelves-list}
+use Rattle.parts.proofs.Hands.{keys-ready, keys-alike, twelves-list}
 use Rattle.rounds.specs.Rounds.{pair, settleBoth, handBoth, round}
 use Rattle.rounds.specs.Joined.{Left, leftBy, joinedList, pairIn, Both}
 use Rattle.rounds.proofs.Both.{stands-long, Lies, lies-a, lies-b, lies-with-a, lies-with-b}
@@ -42,13 +42,13 @@ module _ {l : Layout} {s t : Session} {p e : Place} {a b : ℕ} {r : Areas} (h :
   keys-a : a * l .key ≤ p .keys
   unfolding placeAfter
   keys-a =
-      let most = mul-le-mul {n₁ = a} {m₁ = l .key} {n₂ = 2 * tableCells l (s .sizes)} {m₂ = l .key} (h .stands-a .fits .listed) (omega arith) in
+      let most = mul-le-mul {n₁ = a} {m₁ = l .key} {n₂ = 2 * tableCells l (s .sizes)} {m₂ = l .key} (h .stands-a .steady .fits .listed) (omega arith) in
       omega (arith, most, ap (λ (q : Place). q .keys) (h .ends .seam-is))
 
   keys-b : p .keys + b * l .key ≤ e .keys
   unfolding placeAfter
   keys-b =
-      let most = mul-le-mul {n₁ = b} {m₁ = l .key} {n₂ = 2 * tableCells l (t .sizes)} {m₂ = l .key} (h .stands-b .fits .listed) (omega arith) in
+      let most = mul-le-mul {n₁ = b} {m₁ = l .key} {n₂ = 2 * tableCells l (t .sizes)} {m₂ = l .key} (h .stands-b .steady .fits .listed) (omega arith) in
       omega (arith, most, ap (λ (q : Place). q .keys) (h .ends .end-is))
 
   keys-high : e .keys ≤ 16777216
@@ -68,10 +68,10 @@ module _ {l : Layout} {s t : Session} {p e : Place} {a b : ℕ} {r : Areas} (h :
     filter-up = numbers h .filter-up;
     filter-in = omega (arith, f);
     filter-fits = filter-b;
-    fits = h .stands-b .fits;
+    steady = h .stands-b .steady;
     keys-in = omega (arith, keys-a, numbers h .keys-up, h .ends .full .keys-full);
     keys-few = omega (arith, keys-a, numbers h .keys-up, keys-high);
-    few = omega (arith, h .stands-a .fits .listed, table-high l (s .sizes) (h .ends .lays) (h .ends .ranged-a));
+    few = omega (arith, h .stands-a .steady .fits .listed, table-high l (s .sizes) (h .ends .lays) (h .ends .ranged-a));
     apart = inl (omega (arith, keys-a));
   }
 
@@ -81,10 +81,10 @@ module _ {l : Layout} {s t : Session} {p e : Place} {a b : ℕ} {r : Areas} (h :
     filter-up = omega arith;
     filter-in = omega (arith, f, numbers h .filter-up);
     filter-fits = filter-a;
-    fits = h .stands-a .fits;
+    steady = h .stands-a .steady;
     keys-in = omega (arith, keys-b, h .ends .full .keys-full);
     keys-few = omega (arith, keys-b, keys-high);
-    few = omega (arith, h .stands-b .fits .listed, table-high l (t .sizes) (h .ends .lays) (h .ends .ranged-b));
+    few = omega (arith, h .stands-b .steady .fits .listed, table-high l (t .sizes) (h .ends .lays) (h .ends .ranged-b));
     apart = inr (omega arith);
   }
 
@@ -92,7 +92,7 @@ module _ {l : Layout} {s t : Session} {p e : Place} {a b : ℕ} {r : Areas} (h :
 -- the keys of a session
 key-sized : (l : Layout) (w : Switch) (s : Side) → Stands l w s → (i : ℕ) → i < s .listed → i * l .key + l .key ≤ length (s .list .keys)
 key-sized l w s h i q =
-    omega (arith, row-within i (2 * tableCells l (w .sizes)) (l .key) (omega (arith, q, h .fits .listed)), h .fits .room .keys-fit)
+    omega (arith, row-within i (2 * tableCells l (w .sizes)) (l .key) (omega (arith, q, h .steady .fits .listed)), h .steady .fits .room .keys-fit)
 
 key-front : (l : Layout) (u v : List ℕ) (i : ℕ) → i * l .key + l .key ≤ length u → keyAt l (u ++ v) i ≡ keyAt l u i
 unfolding keyAt
@@ -105,8 +105,8 @@ pub given-stands : (l : Layout) (w : Switch) (filter : List ℕ) (from : Side) (
     → Stands l w (withGiven to (handList l w filter (from .list .keys) (from .listed) to))
 unfolding handList
 given-stands l w filter from v to g h f = record {
-  fits = keys-fits l (w .sizes) (w .salt) filter (from .list .keys) (from .listed) f
-      (λ i q. length-key l (from .list .keys) i (key-sized l v from g i q)) (given (to .listed) 0 (to .table) (to .list) (to .seen)) (h .fits);
+  steady = keys-ready l (w .sizes) (w .salt) filter (from .list .keys) (from .listed) f
+      (λ i q. length-key l (from .list .keys) i (key-sized l v from g i q)) (given (to .listed) 0 (to .table) (to .list) (to .seen)) (h .steady);
   packets-fit = h .packets-fit;
 }
 
@@ -117,7 +117,7 @@ given-part : (l : Layout) (w : Switch) (i j : Place) (n from m : ℕ) (filter : 
     → given a b t rs seen ≡ givePart l w i j n from m filter (s .table) (s .list) (s .seen)
     → let o = handList l w (between (i .filter) (j .filter) filter) keys m x in
     (a ≡ o .listed) × (b ≡ o .twelves) × (areas t (s .packets) rs seen ≡ withPart i j s (withGiven x o))
-unfolding givePart handList
+unfolding givePart givenUpto handList
 given-part l w i j n from m filter s x keys q same z {a} {b} {t} {rs} {seen} h =
     let f = between (i .filter) (j .filter) filter in
     let y = partAt i j n s in

@@ -38,13 +38,11 @@ module _ (l : Layout) (A B : Switch) where
   then-stands : (a b : Side) (twelves : ℕ) → Stands l A a → Stands l B b → (x : Stop) → Stand l A B (thenB l B a b twelves x .pair)
   unfolding thenB
   then-stands a b twelves f g (stop.Done n) = record { stands-a = f; stands-b = settled-stands l B b g }
-  then-stands a b twelves f g (stop.Full n c) = record { stands-a = f; stands-b = g }
   then-stands a b twelves f g (stop.Damaged n c) = record { stands-a = f; stands-b = g }
 
   then-twelves : (a b : Side) (twelves : ℕ) (x : Stop) → thenB l B a b twelves x .pair .twelves ≡ twelves
   unfolding thenB
   then-twelves a b twelves (stop.Done n) = refl
-  then-twelves a b twelves (stop.Full n c) = refl
   then-twelves a b twelves (stop.Damaged n c) = refl
 
   module _ (f g : List ℕ) (f-fits : length f ≡ filterBytes (A .sizes)) (g-fits : length g ≡ filterBytes (B .sizes)) (p : Pair) (h : Stand l A B p) where
@@ -71,8 +69,8 @@ module _ (l : Layout) (A B : Switch) where
           arith,
           twelves-few l B g (p .a .list .keys) (p .a .listed) (p .b) refl,
           twelves-few l A f (toB .list .keys) (toB .listed) (p .a) refl,
-          h .stands-a .fits .listed,
-          b .fits .listed,
+          h .stands-a .steady .fits .listed,
+          b .steady .fits .listed,
         )
 
     round-twelves : round l A f B g p .pair .twelves ≤ p .twelves + 2 * tableCells l (A .sizes) + 2 * tableCells l (B .sizes)
@@ -85,9 +83,7 @@ module _ (l : Layout) (A B : Switch) where
 over-not : (a b a′ b′ : ℕ) (x : Ending) → isOver a b a′ b′ x ≡ false → x ≡ end.Settled
 unfolding isOver
 over-not a b a′ b′ end.Settled h = refl
-over-not a b a′ b′ (end.FullA c) h = clash refl h
 over-not a b a′ b′ (end.DamagedA c) h = clash refl h
-over-not a b a′ b′ (end.FullB c) h = clash refl h
 over-not a b a′ b′ (end.DamagedB c) h = clash refl h
 
 -- ---- what stands before each turn
@@ -184,13 +180,11 @@ module _ (l : Layout) (s t : Session) (p e : Place) (filter : List ℕ) where
           }
 
 -- ---- the two settlings before the rounds
-then-stopped : (l : Layout) (A : Switch) (f : List ℕ) (B : Switch) (g : List ℕ) (p : Pair) (x : Ending) → OneOf (1 ∷ 2 ∷ 3 ∷ 4 ∷ []) (tagOf ending.the-type x)
+then-stopped : (l : Layout) (A : Switch) (f : List ℕ) (B : Switch) (g : List ℕ) (p : Pair) (x : Ending) → OneOf (1 ∷ 2 ∷ []) (tagOf ending.the-type x)
     → ended x p ≡ thenRounds l A f B g p x
 unfolding thenRounds
-then-stopped l A f B g p end.Settled h = absurd (⊎-elim (λ e. omega arith) (⊎-elim (λ e. omega arith) (⊎-elim (λ e. omega arith) (λ e. omega arith))) h)
-then-stopped l A f B g p (end.FullA c) h = refl
+then-stopped l A f B g p end.Settled h = absurd (⊎-elim (λ e. omega arith) (λ e. omega arith) h)
 then-stopped l A f B g p (end.DamagedA c) h = refl
-then-stopped l A f B g p (end.FullB c) h = refl
 then-stopped l A f B g p (end.DamagedB c) h = refl
 
 module _ (l : Layout) (s t : Session) (p e : Place) (filter : List ℕ) {w₀ : Areas} {a b : ℕ} (h : Both l s t p e a b w₀) {r : Round} {w : Areas}
@@ -220,12 +214,12 @@ module _ (l : Layout) (s t : Session) (p e : Place) (filter : List ℕ) {w₀ : 
   pub sides-both : Both l s t p e (r .a) (r .b) w
   sides-both = lies-at h first-lies (ap (λ (v : Round). v .a) first-numbers) (ap (λ (v : Round). v .b) first-numbers)
 
-  pub sides-stopped : OneOf (1 ∷ 2 ∷ 3 ∷ 4 ∷ []) (tagOf ending.the-type (r .ending))
+  pub sides-stopped : OneOf (1 ∷ 2 ∷ []) (tagOf ending.the-type (r .ending))
       → left r w ≡ leftBy (exchangeSides l (switchOf s) (between 0 (p .filter) filter) (switchOf t) (between (p .filter) (e .filter) filter) start)
   unfolding exchangeSides
   sides-stopped q =
       o ∙ ap leftBy (then-stopped l (switchOf s) (between 0 (p .filter) filter) (switchOf t) (between (p .filter) (e .filter) filter) (first .pair)
-      (first .ending) (subst (λ x. OneOf (1 ∷ 2 ∷ 3 ∷ 4 ∷ []) (tagOf ending.the-type x)) (ap (λ (v : Round). v .ending) first-numbers) q))
+      (first .ending) (subst (λ x. OneOf (1 ∷ 2 ∷ []) (tagOf ending.the-type x)) (ap (λ (v : Round). v .ending) first-numbers) q))
 
   pub sides-settled : r .ending ≡ end.Settled → {most : ℕ} → most ≡ mostRounds l (switchOf s) (switchOf t) → {y : Left}
       → y ≡ leftBy (rounds most l (switchOf s) (between 0 (p .filter) filter) (switchOf t) (between (p .filter) (e .filter) filter) (pairIn p e (r .a) (r .b) 0 w))

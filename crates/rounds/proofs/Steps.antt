@@ -1,7 +1,6 @@
 -- Settling both sessions: what the calls need, and what they leave.
 use mathlib.Core.Path.{_≡_, refl, sym, ap, ap₂, subst, _∙_}
 use mathlib.Core.List.{List, [], _∷_, _++_}
-use mathlib.Core.Logic.{⊎-elim, _⊎_}
 use Prim.Native.Nat.{ℕ, _+_, _-_, _≤_}
 use native.Mathlib.Omega.{arith}
 use types.Run.{OneOf}
@@ -13,7 +12,7 @@ use Rattle.layout.specs.declared.Sizes.{Sizes}
 use Rattle.layout.proofs.Ranges.{table-high}
 use Rattle.peeling.specs.Peel.{listedAt}
 use Rattle.peeling.specs.declared.Stop.{Stop}
-use Rattle.peeling.specs.declared.Stop.the-variants.{Done, Full, Damaged}
+use Rattle.peeling.specs.declared.Stop.the-variants.{Done, Damaged}
 use Rattle.peeling.proofs.Stop as stop
 use Rattle.room.specs.declared.Session.{Session}
 use Rattle.parts.specs.declared.Place.{Place}
@@ -200,14 +199,13 @@ module _ (l : Layout) (A B : Switch) (a b : Side) (twelves : ℕ) where
   listed-left w x = refl
 
   -- A's settling did not go through
-  stop-a : (x : Stop) → OneOf (1 ∷ 2 ∷ []) (tagOf stop.the-type x)
+  stop-a : (x : Stop) → OneOf (1 ∷ []) (tagOf stop.the-type x)
       → ended (endingA x) (pair (settleSide l A a .left) b twelves) ≡ thenB l B (settleSide l A a .left) b twelves x
   unfolding thenB
-  stop-a (Done n) h = absurd (⊎-elim (λ e. omega arith) (λ e. omega arith) h)
-  stop-a (Full n c) h = refl
+  stop-a (Done n) h = absurd (omega (arith, h))
   stop-a (Damaged n c) h = refl
 
-  pub both-stopped : {x : Stop} {r : Round} {s : Areas} → OneOf (1 ∷ 2 ∷ []) (tagOf stop.the-type x) → x ≡ settleSide l A a .stop
+  pub both-stopped : {x : Stop} {r : Round} {s : Areas} → OneOf (1 ∷ []) (tagOf stop.the-type x) → x ≡ settleSide l A a .stop
       → r ≡ roundOf (listedAt x) (b .listed) twelves (endingA x) → s ≡ joinedSides (settleSide l A a .left) b
       → left r s ≡ leftBy (settleBoth l A B (pair a b twelves))
   unfolding settleBoth

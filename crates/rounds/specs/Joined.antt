@@ -76,7 +76,7 @@ pub record Ends (l : Layout) (y z : Sizes) (p e : Place) (r : Areas) : Type 0 wh
   pub full : Full e (r .table) (r .packets) (r .list)
   pub seen-full : length (r .seen) ≡ e .seen
 
--- and both have their room
+-- and both have their room, with marks and numbers as the test of 8 has them
 pub record Both (l : Layout) (s t : Session) (p e : Place) (a b : ℕ) (r : Areas) : Type 0 where
   pub ends : Ends l (s .sizes) (t .sizes) p e r
   pub stands-a : Stands l (switchOf s) (partAt origin p a r)

@@ -31,7 +31,6 @@ ended ending p = record { ending = ending; pair = p }
 -- B is settled only where A's settling went through
 unfoldable pub thenB : Layout → Switch → Side → Side → ℕ → Stop → Ended
 thenB l B a b twelves (stop.Done n) = let t = settleSide l B b in ended (endingB (t .stop)) (pair a (t .left) twelves)
-thenB l B a b twelves (stop.Full n c) = ended (endingA (stop.Full n c)) (pair a b twelves)
 thenB l B a b twelves (stop.Damaged n c) = ended (endingA (stop.Damaged n c)) (pair a b twelves)
 
 -- 01 'A session', Exchange: "settle A, settle B"
@@ -64,9 +63,7 @@ mostRounds l A B = 2 * tableCells l (A .sizes) + 2 * tableCells l (B .sizes) + 1
 -- the rounds, where the two settlings before them went through
 unfoldable pub thenRounds : Layout → Switch → List ℕ → Switch → List ℕ → Pair → Ending → Ended
 thenRounds l A f B g p end.Settled = rounds (mostRounds l A B) l A f B g p
-thenRounds l A f B g p (end.FullA c) = ended (end.FullA c) p
 thenRounds l A f B g p (end.DamagedA c) = ended (end.DamagedA c) p
-thenRounds l A f B g p (end.FullB c) = ended (end.FullB c) p
 thenRounds l A f B g p (end.DamagedB c) = ended (end.DamagedB c) p
 
 -- 01 'A session', Exchange: "settle A, settle B; a round ..; it ends after a round in which neither list grew"

@@ -8,21 +8,21 @@ use native.Mathlib.Omega.{arith}
 use lib.ListN.{length, getD, replicate}
 use Rattle.laws.specs.Upto.{numberUpto}
 use Rattle.laws.proofs.Bools.{split}
-use Rattle.laws.proofs.Lowest.{number-rest}
 use Rattle.layout.specs.declared.Layout.{Layout}
 use Rattle.layout.specs.declared.Sizes.{Sizes}
 use Rattle.layout.specs.Sizes.{Lays, inRange, tableCells}
 use Rattle.layout.proofs.Ranges.{ranged, table-high}
-use Rattle.list.specs.Records.{Records, isHanded}
+use Rattle.list.specs.Records.{Records, isHanded, handedIn}
+use Rattle.marks.specs.Marks.{Words}
 use Rattle.table.specs.Table.{Tab}
 use Rattle.index.proofs.Index.{empty-zeros}
 use Rattle.found.specs.Seen.{Covers}
-use Rattle.peeling.specs.Peel.{Fits}
+use Rattle.peeling.specs.Peel.{Steady}
 use Rattle.peeling.specs.declared.Stop.{Stop}
 use Rattle.test8.specs.Given.{flagSet, seenUpto}
-use Rattle.test8.specs.Test8.{overListed, handedIn, peeledIn, isSession}
+use Rattle.test8.specs.Test8.{overListed, isSession}
 use Rattle.test8.proofs.Answers as test8
-use Rattle.test8.proofs.Passed.{listed-few, peeled-few}
+use Rattle.test8.proofs.Passed.{listed-few, passed-bounded}
 use Rattle.test8.proofs.Notes.{seen-covers}
 use Rattle.room.specs.declared.Session.{Session}
 use Rattle.room.specs.Memory.{Memory, memory, Rooms, roomFits}
@@ -118,32 +118,24 @@ module _ (l : Layout) (s : Session) (m : Memory) (lays : Lays l) (p : Passes l s
   pub flags-reach : s .listed ≤ length (m .list .flags)
   flags-reach = let h = listed-high in omega (arith, rooms .room .flags-fit)
 
-  pub passes-fits : {seen : List ℕ} → seen ≡ indexOf l s m → Fits l (s .sizes) (s .salt) (s .listed) (m .table) (m .list) seen
-  passes-fits e = record {
-    table = rooms .table;
-    room = rooms .room;
-    listed = listed-high;
-    covers = subst (Covers l (s .sizes) (s .salt) (s .listed) (m .list .keys)) (sym e)
-        (seen-covers l (s .sizes) (s .salt) (m .list .keys) (replicate 11264 0) (s .listed) listed-small empty-zeros);
+  pub passes-steady : Words (m .table .marks) → {seen : List ℕ} → seen ≡ indexOf l s m
+      → Steady l (s .sizes) (s .salt) (s .listed) (m .table) (m .list) seen
+  passes-steady w e = record {
+    fits = record {
+      table = rooms .table;
+      room = rooms .room;
+      listed = listed-high;
+      covers = subst (Covers l (s .sizes) (s .salt) (s .listed) (m .list .keys)) (sym e)
+          (seen-covers l (s .sizes) (s .salt) (m .list .keys) (replicate 11264 0) (s .listed) listed-small empty-zeros);
+    };
+    bounded = passed-bounded l (s .sizes) (s .salt) (s .listed) (m .table) (m .list) whole w;
   }
 
-  -- the peeled flows leave room for N that are handed over
-  pub passes-hands : (key : List ℕ) {handed : ℕ} {seen : List ℕ} → length key ≡ l .key
+  pub passes-hands : Words (m .table .marks) → (key : List ℕ) {handed : ℕ} {seen : List ℕ} → length key ≡ l .key
       → handed ≡ numberUpto (s .listed) (λ i. flagSet 1 (getD (m .list .flags) i 0)) → seen ≡ indexOf l s m
       → handing.Hands l (s .sizes) (s .salt) (s .listed) handed key (m .filter) (m .table) (m .list) seen
-  unfolding handedIn peeledIn isHanded
-  passes-hands key k h e = record {
-    fits = passes-fits e;
-    filter-fits = rooms .filter-fits;
-    key-fits = k;
-    handed-is = h;
-    room = omega (
-      arith,
-      h,
-      number-rest (s .listed) (λ i. flagSet 1 (getD (m .list .flags) i 0)),
-      peeled-few l (s .sizes) (s .salt) (s .listed) (m .table) (m .list) whole,
-    );
-  }
+  unfolding handedIn isHanded
+  passes-hands w key k h e = record { steady = passes-steady w e; filter-fits = rooms .filter-fits; key-fits = k; handed-is = h }
 
 -- ---- each call's answer
 module _ (l : Layout) (s : Session) (m : Memory) {r : Tested} (e : r ≡ testOf l s m) where

@@ -97,7 +97,6 @@ module _ (l : Layout) (s : Session) (m : Memory) where
 
   never : {A : Type 0} (a : Stop) → Refused (settleNumber (settleAnswer a)) → A
   never (stop.Done n) h = absurd (elim h [ inl e ↦ omega arith | inr e ↦ omega arith ])
-  never (stop.Full n c) h = absurd (elim h [ inl e ↦ omega arith | inr e ↦ omega arith ])
   never (stop.Damaged n c) h = absurd (elim h [ inl e ↦ omega arith | inr e ↦ omega arith ])
 
   abbrev settledTo : settling.Settled

@@ -81,7 +81,6 @@ settlingTo answer m = record { answer = answer; room = m }
 
 abbrev pub settleAnswer : Stop → Settled
 settleAnswer (stop.Done n) = settled.Done n
-settleAnswer (stop.Full n c) = settled.Full n c
 settleAnswer (stop.Damaged n c) = settled.Damaged n c
 
 abbrev pub settleLeaves : Memory → settling.Settled → Settling
@@ -96,7 +95,6 @@ settleOf l s m =
 -- 01's number and values for each answer
 abbrev pub settleReturns : Settled → Returned
 settleReturns (settled.Done n) = only 0
-settleReturns (settled.Full n c) = withCell 13 c
 settleReturns (settled.Damaged n c) = withCell 14 c
 settleReturns settled.NotSession = only 8
 settleReturns settled.BadRoom = only 16

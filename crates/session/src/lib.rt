@@ -42,7 +42,6 @@ pub enum HandOver {
 // What settling answers: how many flows are then listed, and where it stopped; or why it did not begin.
 pub enum Settled {
     Done { listed: usize },
-    Full { listed: usize, cell: usize },
     Damaged { listed: usize, cell: usize },
     NotSession,
     BadRoom,
@@ -282,7 +281,6 @@ fn settle_answer(e: Stop) -> Settled
 {
     match e {
         Stop::Done { listed } => Settled::Done { listed },
-        Stop::Full { listed, cell } => Settled::Full { listed, cell },
         Stop::Damaged { listed, cell } => Settled::Damaged { listed, cell },
     }
 }

@@ -7,7 +7,7 @@ use Rattle.list.specs.Records.{Records}
 use Rattle.table.specs.Table.{Tab, tab}
 use Rattle.peeling.specs.Peel.{peelsOf}
 use Rattle.peeling.specs.declared.Stop.{Stop}
-use Rattle.peeling.specs.declared.Stop.the-variants.{Done, Full, Damaged}
+use Rattle.peeling.specs.declared.Stop.the-variants.{Done, Damaged}
 use Rattle.counting.specs.declared.Stop as counting
 use Rattle.counting.specs.declared.Stop.the-variants as count
 use Rattle.counting.specs.Count.{countsOf}
@@ -33,11 +33,10 @@ unfoldable pub afterCounts : ℕ → Tab → List ℕ → counts.Ended → Settl
 afterCounts n t seen e =
     settled (stopAfter n (e .answer)) (tab (t .xors) (t .flows) (e .unknowns) (e .positions) (t .marks)) (e .packets) (e .list) seen
 
--- a 13 or 14 while peeling ends the settling
+-- a 14 while peeling ends the settling
 unfoldable pub thenCounts : Layout → Sizes → ℕ → List ℕ → Tab → Records → List ℕ → Stop → Settled
 thenCounts l z salt packets t rs seen (Done n) =
     afterCounts n t seen (countsOf l z salt n (t .flows) packets (t .unknowns) (t .positions) rs)
-thenCounts l z salt packets t rs seen (Full n c) = settled (Full n c) t packets rs seen
 thenCounts l z salt packets t rs seen (Damaged n c) = settled (Damaged n c) t packets rs seen
 
 -- 01 'A session', Settle

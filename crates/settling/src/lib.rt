@@ -4,7 +4,7 @@ ghost use lib.ListN.{length};
 ghost use Rattle.layout.specs.Sizes.{tableCells};
 ghost use Rattle.list.specs.Records.{records};
 ghost use Rattle.table.specs.Table.{tab};
-ghost use Rattle.peeling.specs.Peel.{Fits};
+ghost use Rattle.peeling.specs.Peel.{Steady};
 ghost use Rattle.settling.specs.Settle.{settled, stopAfter, settleOf};
 use layout::Layout;
 use layout::Sizes;
@@ -20,7 +20,7 @@ fn stop_after(n: usize, s: counting::Stop) -> Stop
     }
 }
 
-// Peels while a cell is marked, then counts while a cell is ready. n flows are listed at first.
+// Peels while a cell is marked, then counts while a cell is ready. n flows are listed at first; marks and numbers are as the test of 8 has them.
 pub fn settle_all(
     l: Layout,
     z: Sizes,
@@ -37,7 +37,7 @@ pub fn settle_all(
     flags: &mut [u8],
     seen: &mut [u16],
 ) -> Stop
-    requires { ⌜ Fits l z salt n (tab (now xors) (now flows) (now unknowns) (now positions) (now marks))
+    requires { ⌜ Steady l z salt n (tab (now xors) (now flows) (now unknowns) (now positions) (now marks))
         (records (now keys) (now counts) (now flags)) (now seen) × (length (now packets) ≡ tableCells l z) ⌝ }
     ensures { λ r. ⌜ settled r
         (tab (now (xors .exit)) (now (flows .exit)) (now (unknowns .exit)) (now (positions .exit)) (now (marks .exit)))

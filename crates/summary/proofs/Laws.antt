@@ -5,8 +5,8 @@ use Prim.Native.Nat.{ℕ, _-_}
 use lib.ListN.{length, getD}
 use Rattle.laws.specs.Upto.{numberUpto}
 use Rattle.list.specs.Records.{Records, isKnown}
+use Rattle.table.specs.Table.{openIn}
 use Rattle.test8.specs.Given.{flagSet}
-use Rattle.test8.specs.Test8.{openIn}
 use Rattle.summary.specs.declared.State.{State}
 use Rattle.summary.specs.declared.Report.{Report}
 use Rattle.summary.specs.Report.{countedIn, stateOf, reportOf}

@@ -4,17 +4,17 @@ use mathlib.Core.Bool.{Bool, _&&_}
 use mathlib.Core.List.{List}
 use Prim.Native.Nat.{ℕ, _+_, _-_, _*_, _%_, _^_, _≤_, _<_}
 use lib.Bits.{bitXor}
-use lib.Dec.{eqb}
+use lib.Dec.{eqb, ltb}
 use lib.ListN.{length, getD, set}
 use lib.Seq.{sets}
 use Rattle.laws.specs.Xor.{xorBytes}
-use Rattle.laws.specs.Upto.{anyUpto, eachUpto}
+use Rattle.laws.specs.Upto.{anyUpto, eachUpto, numberUpto}
 use Rattle.layout.specs.declared.Layout.{Layout}
 use Rattle.layout.specs.declared.Sizes.{Sizes}
 use Rattle.layout.specs.Sizes.{Lays, Ranged, partCells, tableCells}
 use Rattle.hash.specs.Places.{cellOf, hasCell}
-use Rattle.list.specs.Records.{keyAt}
-use Rattle.marks.specs.Marks.{wordsFor, putMark}
+use Rattle.list.specs.Records.{Records, keyAt, handedIn, peeledIn}
+use Rattle.marks.specs.Marks.{Words, wordsFor, marked, putMark}
 
 -- FlowXOR (as many bytes a cell as a key has) and FlowCount, then what a session keeps for each cell:
 -- 01 'A session': "the number of listed flows in it whose count is unknown, and the XOR of their list positions", and a mark
@@ -53,6 +53,10 @@ pub record InPart (l : Layout) (z : Sizes) (i c : ℕ) : Type 0 where
 unfoldable pub pureAt : Layout → Sizes → ℕ → List ℕ → List ℕ → ℕ → Bool
 pureAt l z salt xors flows c = eqb (getD flows c 0) 1 && hasCell l z salt (keyAt l xors c) c
 
+-- 01 'A session': "cells with FlowCount above 0"
+unfoldable pub openIn : ℕ → List ℕ → ℕ
+openIn cells flows = numberUpto cells (λ c. ltb 0 (getD flows c 0))
+
 -- one of the first k places has FlowCount 0
 unfoldable pub anyEmpty : List ℕ → ℕ → List ℕ → Bool
 anyEmpty at k flows = anyUpto k (λ i. eqb (getD flows (getD at i 0) 0) 0)
@@ -81,3 +85,33 @@ takenAt l z salt key position c t = tab
 -- 01 'A session': "Taking out a key XORs it into FlowXOR and takes 1 from FlowCount in its k cells"
 unfoldable pub takenOut : Layout → Sizes → ℕ → List ℕ → ℕ → Tab → Tab
 takenOut l z salt key position t = eachUpto (z .k) (λ i. takenAt l z salt key position (cellOf l z salt key i)) t
+
+-- what a session has for cell c, PacketCount left out
+pub record Spot : Type 0 where
+  pub xor : List ℕ
+  pub flow : ℕ
+  pub unknown : ℕ
+  pub position : ℕ
+  pub mark : Bool
+
+abbrev pub spotAt : Layout → Tab → ℕ → Spot
+spotAt l t c = record {
+  xor = keyAt l (t .xors) c;
+  flow = getD (t .flows) c 0;
+  unknown = getD (t .unknowns) c 0;
+  position = getD (t .positions) c 0;
+  mark = marked (t .marks) c;
+}
+
+-- ---- why a peel finds room in the list
+-- 01 'A session': "A cell is marked exactly when it is pure"
+abbrev pub MarksRight : Layout → Sizes → ℕ → Tab → Type 0
+MarksRight l z salt t = (c : ℕ) → c < tableCells l z → marked (t .marks) c ≡ pureAt l z salt (t .xors) (t .flows) c
+
+-- what the test of 8 leaves of marks and numbers, n flows being listed, and each step keeps: 01 'A session', refused with 8,
+-- "handed exceeds N, peeled plus cells with FlowCount above 0 exceeds N, or any mark .. differs from what cells and list give"
+pub record Bounded (l : Layout) (z : Sizes) (salt n : ℕ) (t : Tab) (rs : Records) : Type 0 where
+  pub words : Words (t .marks)
+  pub marks-right : MarksRight l z salt t
+  pub handed-few : handedIn n rs ≤ tableCells l z
+  pub peeled-few : peeledIn n rs + openIn (tableCells l z) (t .flows) ≤ tableCells l z

@@ -14,10 +14,10 @@ use Rattle.laws.proofs.Bools.{split, and-l, and-r, not-t}
 use Rattle.layout.specs.declared.Layout.{Layout}
 use Rattle.layout.specs.declared.Sizes.{Sizes}
 use Rattle.layout.specs.Sizes.{tableCells}
-use Rattle.list.specs.Records.{Records, isKnown, isHanded}
-use Rattle.table.specs.Table.{Tab}
+use Rattle.list.specs.Records.{Records, isKnown, isHanded, handedIn, peeledIn}
+use Rattle.table.specs.Table.{Tab, openIn}
 use Rattle.test8.specs.Given.{flagSet, seenUpto}
-use Rattle.test8.specs.Test8.{overListed, keysRepeat, zeroCount, handedIn, peeledIn, openIn, numbersIn, marksRight, restClear}
+use Rattle.test8.specs.Test8.{overListed, keysRepeat, zeroCount, numbersIn, marksRight, restClear}
 use Rattle.test8.specs.Test8.{unknownsGiven, positionsGiven, notesRight, isSession}
 use Rattle.laws.proofs.Lowest.{number-rest}
 

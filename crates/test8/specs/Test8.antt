@@ -10,9 +10,9 @@ use Rattle.layout.specs.declared.Layout.{Layout}
 use Rattle.layout.specs.declared.Sizes.{Sizes}
 use Rattle.layout.specs.Sizes.{tableCells}
 use Rattle.hash.specs.Places.{hasCell}
-use Rattle.list.specs.Records.{Records, keyAt, isKnown, isHanded, isListed}
+use Rattle.list.specs.Records.{Records, keyAt, isKnown, isListed, handedIn, peeledIn}
 use Rattle.marks.specs.Marks.{wordsFor, marked}
-use Rattle.table.specs.Table.{Tab, pureAt}
+use Rattle.table.specs.Table.{Tab, pureAt, openIn}
 
 -- 01 'A session': "over 2 N flows are listed"
 unfoldable pub overListed : Layout → Sizes → ℕ → Bool
@@ -25,17 +25,6 @@ keysRepeat l n keys = anyUpto n (λ j. isListed l j keys (keyAt l keys j))
 -- 01 'A session': "a known count is 0"
 unfoldable pub zeroCount : ℕ → Records → Bool
 zeroCount n rs = anyUpto n (λ i. isKnown rs i && eqb (getD (rs .counts) i 0) 0)
-
--- 01 'A session': "handed exceeds N": the flows handed over, and those peeled
-unfoldable pub handedIn : ℕ → Records → ℕ
-handedIn n rs = numberUpto n (isHanded rs)
-
-unfoldable pub peeledIn : ℕ → Records → ℕ
-peeledIn n rs = numberUpto n (λ i. not (isHanded rs i))
-
--- 01 'A session': "cells with FlowCount above 0"
-unfoldable pub openIn : ℕ → List ℕ → ℕ
-openIn cells flows = numberUpto cells (λ c. ltb 0 (getD flows c 0))
 
 -- 01 'A session': "handed exceeds N, peeled plus cells with FlowCount above 0 exceeds N": neither
 unfoldable pub numbersIn : ℕ → ℕ → List ℕ → Records → Bool

@@ -10,18 +10,10 @@ ghost use Rattle.layout.specs.Sizes.{Lays, Ranged, tableCells};
 ghost use Rattle.list.specs.Records.{records, Room};
 ghost use Rattle.index.specs.Index.{Empty};
 ghost use Rattle.marks.specs.Marks.{wordsFor};
-ghost use Rattle.table.specs.Table.{tab, Fit};
+ghost use Rattle.table.specs.Table.{tab, Fit, openIn};
 ghost use Rattle.hash.specs.Places.{Within};
 ghost use Rattle.test8.specs.Given.{flagSet, renewed, oneMore, mixedIn, noted, seenUpto};
-ghost use Rattle.test8.specs.Test8.{
-  overListed,
-  keysRepeat,
-  openIn,
-  agrees,
-  marksRight,
-  restClear,
-  isSession,
-};
+ghost use Rattle.test8.specs.Test8.{overListed, keysRepeat, agrees, marksRight, restClear, isSession};
 use hash::Cells;
 use layout::Layout;
 use layout::Sizes;

@@ -1,4 +1,4 @@
--- Demands 2 and 3 of every session of a flowset, whatever calls led to it; and answer 13, for any sequence of hand-overs and settlings.
+-- Demands 2 and 3 of every session of a flowset, whatever calls led to it.
 use mathlib.Core.Path.{_≡_, refl, sym, ap, _∙_}
 use mathlib.Core.Bool.{true, cond}
 use mathlib.Core.List.{List, []}
@@ -7,7 +7,7 @@ use Prim.Native.Nat.{ℕ}
 use native.Mathlib.Omega.{arith}
 use lib.Dec.{ltb}
 use Rattle.theory.specs.Encode.{Key, among, Table}
-use Rattle.theory.specs.Session.{Session, opened, keysOf, keysWhere, handedOf, listed, handedOver, counted, countOf, openCells, settled, listFull}
+use Rattle.theory.specs.Session.{Session, opened, keysOf, keysWhere, handedOf, listed, handedOver, counted, countOf, openCells, settled}
 use Rattle.theory.specs.HandOver.{Switch, Call, calls, settleAt}
 use Rattle.theory.specs.Fits.{Fits}
 use Rattle.theory.specs.Runs.{start, Stands, AtRest}
@@ -18,8 +18,7 @@ use Rattle.theory.proofs.Records.{where-listed, where-distinct, counts-
 use Rattle.theory.proofs.Invariant.{invariant-opened}
 use Rattle.theory.proofs.Runs.{counted-listed, listed-least, counted-least}
 use Rattle.theory.proofs.Confluence.{rest-closed, counted-closed, all-counted, same-counted, same-listed, same-cells}
-use Rattle.theory.proofs.Settle.{settle-handed, never-13}
-use Rattle.theory.proofs.HandOver.{calls-fit}
+use Rattle.theory.proofs.Settle.{settle-handed}
 use Rattle.theory.proofs.Calls.{goes-holds, settle-goes, calls-go, all-go, all-handed}
 use Rattle.theory.proofs.Truthful.{left-is, stated}
 use Rattle.laws.proofs.Lowest.{number-max}
@@ -28,10 +27,6 @@ use Rattle.laws.proofs.Lowest.{number-max}
 pub opened-fits : (n : ℕ) (t : Table) → Fits n (opened t)
 unfolding keysWhere openCells
 opened-fits n t = record { handed-room = omega arith; peeled-room = omega (arith, number-max n (λ c. ltb 0 (t c .flowCount))) }
-
--- Theorem: from any cells, clean, damaged or made up, no settling after any calls is answered with 13
-pub calls-never-13 : (w : Switch) (t : Table) (l : List Call) (c : ℕ) → settleAt w (calls w l (opened t)) .stop ≡ listFull c → ⊥
-calls-never-13 w t l c = never-13 (w .size) (w .has) (calls w l (opened t)) (calls-fit w l (opened t) (opened-fits (w .size) t)) c
 
 module _ (w : Switch) (e : Counted w) where
   abbrev pub holds₀ : Holds w e (received w e)

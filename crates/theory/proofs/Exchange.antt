@@ -3,13 +3,13 @@
 use mathlib.Core.Path.{_≡_, refl, sym, ap, _∙_, subst}
 use mathlib.Core.Logic.{inl, inr}
 use mathlib.Core.Bool.{Bool, true, false, cond}
-use mathlib.Core.List.{List, [], _∷_}
+use mathlib.Core.List.{[], _∷_}
 use Prim.Native.Nat.{ℕ, zero, suc, _+_, _*_, _<_}
 use native.Mathlib.Omega.{arith}
 use Rattle.laws.specs.Upto.{anyUpto}
 use Rattle.laws.proofs.Bools.{split}
 use Rattle.theory.specs.Encode.{Key, among}
-use Rattle.theory.specs.Session.{listed, handedOver, Stop, settled, listFull, damage}
+use Rattle.theory.specs.Session.{listed, handedOver, Stop, settled, damage}
 use Rattle.theory.specs.HandOver.{Switch, settleAt}
 use Rattle.theory.specs.Fits.{Fits}
 use Rattle.theory.specs.Runs.{PeelClosed, Stands, AtRest}
@@ -17,27 +17,17 @@ use Rattle.theory.specs.Invariant.{Counted, received, Holds}
 use Rattle.theory.specs.Demands.{HandedCounted}
 use Rattle.theory.specs.Exchange.{Pair, Ending, finished, stoppedA, stoppedB, Exchanged, handBoth, settleBoth, round, grew, goOn, rounds}
 use Rattle.theory.specs.Exchange.{thenRounds, exchange, PassesOwn, BothCounted, JointlyClosed, JointClosure}
-use Rattle.theory.specs.Family.{Family, FamilyEnding, ended, stoppedAt, Ended, Way, bothWays, leads, Within, putAt, handTo, handAlong}
+use Rattle.theory.specs.Family.{Family, FamilyEnding, ended, stoppedAt, Ended, bothWays, leads, Within, putAt, handTo, handAlong}
 use Rattle.theory.specs.Family.{andThen, settleOne, settleUpto, roundAlong, anyGrew, roundsAlong, sumUpto, roundsRoom, exchangeAlong}
-use Rattle.theory.specs.Family.{AllCounted, ClosedAlong, ClosureAlong}
+use Rattle.theory.specs.Family.{two, familyOf, onePair, AllCounted, ClosedAlong, ClosureAlong}
+use Rattle.theory.specs.Thirteen.{ExchangeNever13}
 use Rattle.theory.proofs.Onward.{within-both, onward-exchange}
-use Rattle.theory.proofs.Room.{NotFull, NeverFull, AllFit, family-over, family-enough, family-never-13}
+use Rattle.theory.proofs.Room.{AllFit, family-over, family-enough, family-never-13}
 use Rattle.theory.proofs.Invariant.{invariant-opened}
 use Rattle.theory.proofs.Along.{one-goes}
 use Rattle.theory.proofs.Family.{family-ends, family-rests, family-closure}
 
--- ---- two switches as a family
-abbrev pub two : {T : Type 0} → T → T → ℕ → T
-two x y zero = x
-two x y (suc i) = y
-
-abbrev pub familyOf : Pair → Family
-familyOf p = record { session = two (p .a) (p .b); twelves = p .twelves }
-
-abbrev pub onePair : List Way
-onePair = bothWays (record { from = 0; to = 1 } ∷ [])
-
--- and back
+-- ---- two switches as a family, and back
 abbrev pub pairOf : Family → Pair
 pairOf p = record { a = p .session 0; b = p .session 1; twelves = p .twelves }
 
@@ -64,9 +54,7 @@ module _ (A B : Switch) where
       stops : (s t : Stop) → settleAt A (p .session 0) .stop ≡ s → settleAt B (p .session 1) .stop ≡ t
           → exchangedOf (settleUpto W 2 p) ≡ settleBoth A B (pairOf p)
       stops settled settled e f = rw (e, f)
-      stops settled (listFull c) e f = rw (e, f)
       stops settled (damage c) e f = rw (e, f)
-      stops (listFull c) t e f = rw e
       stops (damage c) t e f = rw e
 
   two-round : (p : Family) → exchangedOf (roundAlong 2 W onePair p) ≡ round A B (pairOf p)
@@ -133,12 +121,6 @@ pub data PairOver (A B : Switch) (first : Pair) (r : Exchanged) : Type 0 where
   still : (m : ℕ) (p : Pair) → rounds A B m first ≡ record { pair = p; ending = finished } → r ≡ round A B p → r .ending ≡ finished
       → grew p (r .pair) ≡ false → PairOver A B first r
 
--- no 13 ended it
-abbrev pub Never13 : Ending → Type 0
-Never13 finished = Unit {0}
-Never13 (stoppedA stop) = NotFull stop
-Never13 (stoppedB stop) = NotFull stop
-
 module _ (A B : Switch) where
   over-stopped : (first : Pair) (r : Ended) (i : ℕ) (s : Stop) → r .ending ≡ stoppedAt i s → PairOver A B first (exchangedOf r)
   over-stopped first r zero s e = by-a s (ap endOf e)
@@ -159,16 +141,9 @@ module _ (A B : Switch) where
             (sym (two-grew A B (s .before) (r .family)) ∙ s .none-grew)
       ])
 
-  never-of : (end : FamilyEnding) → NeverFull end → Never13 (endOf end)
-  never-of ended h = h
-  never-of (stoppedAt zero s) h = h
-  never-of (stoppedAt (suc i) s) h = h
-
-  -- Theorem: no exchange of sessions with room is ended by a 13
-  pub exchange-never-13 : (p : Pair) → Fits (A .size) (p .a) → Fits (B .size) (p .b) → Never13 (exchange A B p .ending)
-  exchange-never-13 p f g = subst (λ r. Never13 (r .ending)) (two-are A B p)
-      (never-of (exchangeAlong 2 (two A B) onePair (familyOf p) .ending)
-      (family-never-13 2 (two A B) onePair (familyOf p) (two-fit A B p f g)))
+  -- Theorem: no settling of an exchange of sessions with room meets 13
+  pub exchange-never-13 : (p : Pair) → Fits (A .size) (p .a) → Fits (B .size) (p .b) → ExchangeNever13 2 (two A B) onePair (familyOf p)
+  exchange-never-13 p f g = family-never-13 2 (two A B) onePair (familyOf p) (two-fit A B p f g)
 
 -- ---- clean switches
 module _ (A B : Switch) (e : Counted A) (f : Counted B) (p₀ : Pair) where
@@ -229,7 +204,7 @@ module _ (A B : Switch) (e : Counted A) (f : Counted B) (p₀ : Pair) where
     all-counted : AllCounted 2 (two A B) counts (final .family)
     all-counted = two-counted (final .family) (subst (λ r. BothCounted A B e f (r .pair)) (sym (two-are A B p₀)) ours)
 
-    -- Theorem: no 13 or 14 ends the exchange
+    -- Theorem: no 14 ends the exchange
     pub exchange-ends : exchange A B p₀ .ending ≡ finished
     exchange-ends = sym (ap (λ r. r .ending) (two-are A B p₀))
         ∙ ap endOf (family-ends 2 (two A B) onePair within counts (familyOf p₀) holds (two-fit A B p₀ fitA fitB) all-counted)

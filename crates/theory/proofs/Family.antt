@@ -188,7 +188,7 @@ module _ (n : ℕ) (W : ℕ → Switch) (l : List Way) (within : Within n l) (e 
           never-both i (s .stop) (ap (λ r. r .ending) (s .is) ∙ rw z) (s .ends))
     ]
 
-    -- Theorem: no 13 or 14 ends the exchange
+    -- Theorem: no 14 ends the exchange
     pub family-ends : final .ending ≡ ended
     family-ends = finish .ends
 

@@ -13,7 +13,7 @@ use Rattle.laws.specs.Xor.{xorBytes}
 use Rattle.laws.specs.Upto.{anyUpto, lowest}
 use Rattle.laws.proofs.Bools.{split, clash, or-e}
 use Rattle.theory.specs.Encode.{Key, sameKey, among, Distinct, sumOver, Table, emptyTable, addFlow, flowsAfter, packetsOf, EachTaken, NewIsNew, encodeCell, encode, outside}
-use Rattle.theory.specs.Session.{Session, opened, keysOf, keysWhere, counted, countOf, pure, ready, first, hasEmptyCell, takeOut, withCount, setCount, Step, quiet, full, damaged, next, afterStep, repeat, peelDamaged, peelAt, peel, countDamaged, countAt, countStep, thenCounts, settle}
+use Rattle.theory.specs.Session.{Session, opened, keysOf, keysWhere, counted, countOf, pure, ready, first, hasEmptyCell, takeOut, withCount, setCount, Step, quiet, damaged, next, afterStep, repeat, peelDamaged, peelAt, peel, countDamaged, countAt, countStep, thenCounts, settle}
 use Rattle.theory.specs.HandOver.{hand, handAnswer, handOver, Call, call, calls, handEach}
 use Rattle.theory.specs.Report.{Report, report}
 use Rattle.theory.specs.Invariant.{Placed, Counted, received}
@@ -42,7 +42,6 @@ peel-meets n has t u e = go (peel n has (t .notes .marks) (t .session)) e
 
     go : (v : Step Session) → mapStep renewed v ≡ next u → PeelLeaves n has t u
     go quiet p = absurd (let z : _≡_ {A = ℕ} 0 1 = cc in omega arith)
-    go (full d) p = absurd (let z : _≡_ {A = ℕ} 0 1 = cc in omega arith)
     go (damaged d) p = absurd (let z : _≡_ {A = ℕ} 0 1 = cc in omega arith)
     go (next s) p =
         let same : renewed s ≡ u = cc in

@@ -16,6 +16,7 @@ pub mod Confluence
 pub mod Repeat
 pub mod Steps
 pub mod Settle
+pub mod Thirteen
 pub mod HandOver
 pub mod Calls
 pub mod Truthful

@@ -12,7 +12,7 @@ use lib.ListN.{length, getD}
 use Rattle.laws.specs.Upto.{anyUpto, lowest}
 use Rattle.laws.proofs.Bools.{split, or-fl}
 use Rattle.theory.specs.Encode.{Key, Distinct, Placement}
-use Rattle.theory.specs.Session.{Session, keysOf, unknownsOf, listed, pure, unknownsIn, ready, theUnknown, hasEmptyCell, newRecord, takeOut, setCount, Step, damaged, next, Stop, settled, listFull, damage, peelDamaged, peelPure, countDamaged, countAt, countStep, peels, thenCounts, settle}
+use Rattle.theory.specs.Session.{Session, keysOf, unknownsOf, listed, pure, unknownsIn, ready, theUnknown, hasEmptyCell, newRecord, takeOut, setCount, Step, damaged, next, Stop, settled, damage, peelDamaged, peelPure, countDamaged, countAt, countStep, peels, thenCounts, settle}
 use Rattle.theory.specs.HandOver.{Switch, handAnswer, handOver}
 use Rattle.theory.specs.Notes.{Notes, Noted, positionsIn, scan, noted, noteTaken, noteTold, mapStep, mapResult, peelNoted, readyBy}
 use Rattle.theory.specs.Notes.{tellAt, countNoted}
@@ -21,7 +21,7 @@ use Rattle.theory.proofs.Sums.{sum-append}
 use Rattle.theory.proofs.Records.{take-distinct, count-distinct, where-append}
 use Rattle.theory.proofs.Positions.{positions-append, Stands, positions-one, withCount-at, count-told, positions-told}
 use Rattle.theory.proofs.Single.{ready-one}
-use Rattle.theory.proofs.Steps.{Peeling, none-marked, no-room, broken, taken, peeling, pure-count, peel-next, count-next}
+use Rattle.theory.proofs.Steps.{Peeling, none-marked, broken, taken, peeling, pure-count, peel-next, count-next}
 use Rattle.theory.proofs.Settle.{peels-keep}
 use Rattle.theory.proofs.Repeat.{repeat-map}
 use Rattle.laws.proofs.Lowest.{lowest-hit}
@@ -120,8 +120,7 @@ module _ (n : ℕ) (has : Placement) where
 
       go : {v : Step Session} → Peeling n has (pure has (s .cells)) s v → mapStep renewed v ≡ mapStep (noted has) v
       go (none-marked a) = refl
-      go (no-room a b) = refl
-      go (broken a b d) = refl
+      go (broken a d) = refl
       go (taken {t = t} p) = ap (λ m. next (record { session = t; notes = m })) (rw (p .result) (scan-taken has false key s))
 
   told-at : (s : Session) → Distinct (keysOf (s .list)) → (c : ℕ) → ready has s c ≡ true
@@ -166,7 +165,6 @@ module _ (n : ℕ) (has : Placement) where
   unfolding thenCountsNoted thenCounts
   then-noted s settled d = repeat-map (countStep n has) (countNoted n has) (noted has) (λ t. Distinct (keysOf (t .list))) distinct-count count-noted
       (length (unknownsOf (s .list))) s d
-  then-noted s (listFull c) d = refl
   then-noted s (damage c) d = refl
 
   -- Theorem: settling by the marks is settling by looking through all cells,

@@ -90,17 +90,17 @@ pub both-same : (l m : List Way) → SameWays l m → SameWays (bothWays l) (bot
 both-same l m same i j = both-leads l i j ∙ rw (same i j, same j i) (sym (both-leads m i j))
 
 -- ---- what each settling keeps, and each hand-over along a way of the list
-module _ (n : ℕ) (W : ℕ → Switch) (P : Family → Type 0) (settle-kept : (i : ℕ) (p : Family) → i < n → P p → P (settleOne W i p .family)) where
-  then-keeps : (go : Family → Ended) (r : Ended) (end : FamilyEnding) → P (r .family) → (P (r .family) → P (go (r .family) .family))
-      → P (andThen go r end .family)
-  unfolding andThen
-  then-keeps go r ended h on = on h
-  then-keeps go r (stoppedAt i s) h on = h
+pub then-keeps : (P : Family → Type 0) (go : Family → Ended) (r : Ended) (end : FamilyEnding) → P (r .family)
+    → (P (r .family) → P (go (r .family) .family)) → P (andThen go r end .family)
+unfolding andThen
+then-keeps P go r ended h on = on h
+then-keeps P go r (stoppedAt i s) h on = h
 
+module _ (n : ℕ) (W : ℕ → Switch) (P : Family → Type 0) (settle-kept : (i : ℕ) (p : Family) → i < n → P p → P (settleOne W i p .family)) where
   pub upto-keeps : (m : ℕ) → m ≤ n → (p : Family) → P p → P (settleUpto W m p .family)
   unfolding settleUpto
   upto-keeps zero b p h = h
-  upto-keeps (suc m) b p h = then-keeps (settleOne W m) (settleUpto W m p) (settleUpto W m p .ending) (upto-keeps m (omega arith) p h)
+  upto-keeps (suc m) b p h = then-keeps P (settleOne W m) (settleUpto W m p) (settleUpto W m p .ending) (upto-keeps m (omega arith) p h)
       (settle-kept m (settleUpto W m p .family) (omega arith))
 
   module _ (l : List Way) (hand-kept : (v : Way) (p : Family) → leads l (v .from) (v .to) ≡ true → P p → P (handTo W v p)) where
@@ -121,12 +121,12 @@ module _ (n : ℕ) (W : ℕ → Switch) (P : Family → Type 0) (settle-kept : (
     rounds-keep zero p h = h
     rounds-keep (suc m) p h =
         let r = roundAlong n W l p in
-        then-keeps (λ q. cond (anyGrew n p q) (roundsAlong n W l m q) r) r (r .ending) (round-keeps p h)
+        then-keeps P (λ q. cond (anyGrew n p q) (roundsAlong n W l m q) r) r (r .ending) (round-keeps p h)
         (λ g. elim (split (anyGrew n p (r .family))) [ inl y ↦ rw y (rounds-keep m (r .family) g) | inr y ↦ rw y g ])
 
     pub exchange-keeps : (p : Family) → P p → P (exchangeAlong n W l p .family)
     unfolding exchangeAlong
-    exchange-keeps p h = then-keeps (roundsAlong n W l (roundsRoom n W + 1)) (settleUpto W n p) (settleUpto W n p .ending)
+    exchange-keeps p h = then-keeps P (roundsAlong n W l (roundsRoom n W + 1)) (settleUpto W n p) (settleUpto W n p .ending)
         (upto-keeps n (le-refl n) p h) (rounds-keep (roundsRoom n W + 1) (settleUpto W n p .family))
 
 -- ---- nothing is taken back

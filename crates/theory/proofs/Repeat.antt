@@ -2,18 +2,16 @@
 use mathlib.Core.Path.{_≡_, refl, sym, ap, _∙_}
 use Prim.Native.Nat.{ℕ, zero, suc, _≤_, _<_}
 use native.Mathlib.Omega.{arith}
-use Rattle.theory.specs.Session.{Step, quiet, full, damaged, next, Stop, settled, listFull, damage, Result, afterStep, repeat}
+use Rattle.theory.specs.Session.{Step, quiet, damaged, next, Stop, settled, damage, Result, afterStep, repeat}
 use Rattle.theory.specs.Notes.{mapStep, mapResult}
 
 -- the step that ends so
 abbrev pub stepOf : {S : Type 0} → Stop → Step S
 stepOf settled = quiet
-stepOf (listFull c) = full c
 stepOf (damage c) = damaged c
 
 pub quiet-only : {S : Type 0} (stop : Stop) → _≡_ {A = Step S} quiet (stepOf stop) → settled ≡ stop
 quiet-only settled e = refl
-quiet-only (listFull c) e = absurd (let z : _≡_ {A = ℕ} 0 1 = cc in omega arith)
 quiet-only (damage c) e = absurd (let z : _≡_ {A = ℕ} 0 1 = cc in omega arith)
 
 module _ {S : Type 0} (f : S → Step S) where
@@ -21,7 +19,6 @@ module _ {S : Type 0} (f : S → Step S) where
       → I (afterStep go s v .state)
   unfolding afterStep
   turn-keeps I go s quiet i h = i
-  turn-keeps I go s (full c) i h = i
   turn-keeps I go s (damaged c) i h = i
   turn-keeps I go s (next t) i h = h t refl
 
@@ -36,7 +33,6 @@ module _ {S : Type 0} (f : S → Step S) where
         → f (afterStep go s v .state) ≡ stepOf (afterStep go s v .stop)
     unfolding afterStep
     turn-ends go s quiet e h = e
-    turn-ends go s (full c) e h = e
     turn-ends go s (damaged c) e h = e
     turn-ends go s (next t) e h = h t refl
 
@@ -50,7 +46,6 @@ module _ {S : Type 0} (f : S → Step S) where
     unfolding repeat afterStep
     repeat-still zero s l stop e = ap (λ r. record { state = s; stop = r }) (quiet-only stop (sym (idle s (omega arith)) ∙ e))
     repeat-still (suc m) s l settled e = rw e
-    repeat-still (suc m) s l (listFull c) e = rw e
     repeat-still (suc m) s l (damage c) e = rw e
 
 -- a step that does the same under a map, repeated
@@ -60,7 +55,6 @@ module _ {S T : Type 0} (f : S → Step S) (g : T → Step T) (h : S → T) (I :
       → afterStep gone (h s) (mapStep h v) ≡ mapResult h (afterStep go s v)
   unfolding afterStep
   turn-map go gone s quiet ih = refl
-  turn-map go gone s (full c) ih = refl
   turn-map go gone s (damaged c) ih = refl
   turn-map go gone s (next t) ih = ih t refl
 

@@ -1,5 +1,5 @@
 -- The exchange of any sessions that have room, whatever their cells hold: the rounds allowed are enough, it ends with a stop or after
--- a round in which no list grew, and never with a 13.
+-- a round in which no list grew, and no settling of it meets 13.
 use mathlib.Core.Path.{_≡_, refl, sym, ap, _∙_, subst}
 use mathlib.Core.Logic.{_⊎_, inl, inr}
 use mathlib.Core.Bool.{Bool, true, false, cond}
@@ -11,17 +11,18 @@ use lib.ListN.{length}
 use lib.Dec.{ltb}
 use Rattle.laws.proofs.Bools.{split}
 use Rattle.laws.proofs.Upto.{any-some}
-use Rattle.theory.specs.Session.{keysOf, Stop, settled, listFull, damage}
+use Rattle.theory.specs.Session.{keysOf, Stop, settled, damage}
 use Rattle.theory.specs.HandOver.{Switch, handEach, settleAt}
 use Rattle.theory.specs.Fits.{Fits}
 use Rattle.theory.specs.Family.{Family, FamilyEnding, ended, stoppedAt, Ended, Way, leads, handTo, handAlong, andThen, endingAt, settleOne}
 use Rattle.theory.specs.Family.{settleUpto, roundAlong, anyGrew, roundsAlong, sumUpto, roundsRoom, exchangeAlong}
+use Rattle.theory.specs.Thirteen.{familyAfter, ExchangeNever13}
 use Rattle.theory.proofs.Steps.{fits-length}
 use Rattle.theory.proofs.Settle.{settle-fits, never-13}
 use Rattle.theory.proofs.HandOver.{calls-fit}
 use Rattle.theory.proofs.Grown.{grown-length}
 use Rattle.theory.proofs.Generic.{sum-le, sum-lt, put-all}
-use Rattle.theory.proofs.Onward.{Onward, onward-round, upto-keeps, along-keeps, round-keeps}
+use Rattle.theory.proofs.Onward.{Onward, onward-round, then-keeps, upto-keeps, along-keeps, round-keeps}
 use borrow.Author.Tests.{ltb-true}
 
 -- ---- what follows, where the ending is known
@@ -41,23 +42,7 @@ then-same go gone r (stoppedAt i s) e = refl
 
 ending-cases : (i : ℕ) (stop : Stop) → (endingAt i stop ≡ ended) ⊎ ((c : Stop) × (endingAt i stop ≡ stoppedAt i c))
 ending-cases i settled = inl refl
-ending-cases i (listFull c) = inr (listFull c, refl)
 ending-cases i (damage c) = inr (damage c, refl)
-
--- no 13
-abbrev pub NotFull : Stop → Type 0
-NotFull settled = Unit {0}
-NotFull (listFull c) = ⊥
-NotFull (damage c) = Unit {0}
-
-abbrev pub NeverFull : FamilyEnding → Type 0
-NeverFull ended = Unit {0}
-NeverFull (stoppedAt i stop) = NotFull stop
-
-none-full : (i : ℕ) (stop : Stop) → ((c : ℕ) → stop ≡ listFull c → ⊥) → NeverFull (endingAt i stop)
-none-full i settled h = tt
-none-full i (listFull c) h = h c refl
-none-full i (damage c) h = tt
 
 -- ---- the two ways to end: a settling stopped, from a family of which P holds
 pub record Stopped (n : ℕ) (W : ℕ → Switch) (P : Family → Type 0) (r : Ended) : Type 0 where
@@ -219,14 +204,45 @@ module _ (n : ℕ) (W : ℕ → Switch) where
         (rounds-enough m (roundsRoom n W + 1) (r .family) (upto-keeps n W (AllFit n W) (λ i q _. settle-fit i q) n (le-refl n) p f)
         (omega arith) (omega arith))
 
-    -- Theorem: no 13 ends it
-    pub family-never-13 : (p : Family) → AllFit n W p → NeverFull (exchangeAlong n W l p .ending)
-    unfolding settleOne
-    family-never-13 p f = elim (family-over p f) [
-      | inr s ↦ subst NeverFull (sym (s .ends)) tt
-      | inl s ↦
-          (let w = W (s .switch) in
-          let t = s .before .session (s .switch) in
-          subst NeverFull (sym (ap (λ r. r .ending) (s .is)))
-          (none-full (s .switch) (settleAt w t .stop) (never-13 (w .size) (w .has) t (s .holds (s .switch) (s .below)))))
-    ]
+    -- ---- answer 13
+    upto-fit : (m : ℕ) → m ≤ n → (p : Family) → AllFit n W p → AllFit n W (settleUpto W m p .family)
+    upto-fit = upto-keeps n W (AllFit n W) (λ i q _. settle-fit i q)
+
+    along-fit : (p : Family) → AllFit n W p → AllFit n W (handAlong W l p)
+    along-fit = along-keeps n W (AllFit n W) (λ i q _. settle-fit i q) l (λ v q _. hand-fit v q)
+
+    after-fit : (p : Family) → AllFit n W p → (m : ℕ) → AllFit n W (familyAfter n W l p m)
+    unfolding familyAfter
+    after-fit p f zero = upto-fit n (le-refl n) p f
+    after-fit p f (suc m) = upto-fit n (le-refl n) (handAlong W l (familyAfter n W l p m)) (along-fit (familyAfter n W l p m) (after-fit p f m))
+
+    -- Theorem: no settling of it meets 13
+    pub family-never-13 : (p : Family) → AllFit n W p → ExchangeNever13 n W l p
+    family-never-13 p f = record {
+      at-first = λ i b. never-13 (W i) _ (upto-fit i (omega arith) p f i b);
+      in-round = λ m i b. never-13 (W i) _ (upto-fit i (omega arith) _ (along-fit (familyAfter n W l p m) (after-fit p f m)) i b);
+    }
+
+    -- one of the families that this speaks of
+    abbrev pub Through : Family → Family → Type 0
+    Through p q = (r : ℕ) × (q ≡ familyAfter n W l p r)
+
+    rounds-from : (p : Family) (m k : ℕ) → Through p (roundsAlong n W l m (familyAfter n W l p k) .family)
+    unfolding roundsAlong familyAfter
+    rounds-from p zero k = (k, refl)
+    rounds-from p (suc m) k =
+        let q = familyAfter n W l p k in
+        let r = roundAlong n W l q in
+        then-keeps (Through p) (λ f. cond (anyGrew n q f) (roundsAlong n W l m f) r) r (r .ending) (suc k, refl)
+        (λ h. elim (split (anyGrew n q (r .family))) [ inl y ↦ rw y (rounds-from p m (suc k)) | inr y ↦ rw y h ])
+
+    -- Theorem: the exchange goes through these families: any number of its rounds ends in one of them, and so does the whole
+    pub rounds-through : (m : ℕ) (p : Family) → Through p (roundsAlong n W l m (settleUpto W n p .family) .family)
+    unfolding familyAfter
+    rounds-through m p = rounds-from p m 0
+
+    pub exchange-through : (p : Family) → Through p (exchangeAlong n W l p .family)
+    unfolding exchangeAlong familyAfter
+    exchange-through p =
+        let r = settleUpto W n p in
+        then-keeps (Through p) (roundsAlong n W l (roundsRoom n W + 1)) r (r .ending) (0, refl) (λ _. rounds-through (roundsRoom n W + 1) p)

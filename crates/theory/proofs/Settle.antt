@@ -2,7 +2,7 @@
 use mathlib.Core.Path.{_≡_, refl, ap, _∙_}
 use mathlib.Core.Logic.{inl, inr}
 use mathlib.Core.Bool.{true, false, _&&_}
-use Prim.Native.Nat.{ℕ, _<_}
+use Prim.Native.Nat.{ℕ, _*_, _<_}
 use native.Mathlib.Nat.{le-refl}
 use native.Mathlib.Omega.{arith}
 use lib.ListN.{length}
@@ -10,9 +10,10 @@ use lib.Dec.{eqb, ltb}
 use Rattle.laws.proofs.Bools.{split, clash, ne-is}
 use Rattle.laws.proofs.Upto.{any-no, any-none}
 use Rattle.theory.specs.Encode.{Key, among, Placement}
-use Rattle.theory.specs.Session.{Session, unknownsOf, handedOf, listed, pure, ready, theUnknown, hasEmptyCell, openCells, quiet, full, damaged, next, Stop, settled, listFull, damage, peelDamaged, peelPure, peel, countDamaged, countStep, peels, counts, thenCounts, settle}
+use Rattle.theory.specs.Session.{Session, unknownsOf, handedOf, listed, pure, ready, theUnknown, hasEmptyCell, openCells, quiet, damaged, next, Stop, settled, damage, repeat, peelDamaged, peelPure, peel, countDamaged, countStep, peels, counts, thenCounts, settle}
 use Rattle.theory.specs.Fits.{Fits}
 use Rattle.theory.specs.HandOver.{Switch}
+use Rattle.theory.specs.Thirteen.{meets13, Never13}
 use Rattle.theory.specs.Invariant.{Counted, Holds}
 use Rattle.theory.specs.Runs.{Run, peeled, told, Going, AtRest}
 use Rattle.theory.proofs.Records.{handed-peel, handed-count}
@@ -22,15 +23,13 @@ use Rattle.theory.proofs.Single.{pure-only, ready-only, ready-unknown, 
 use Rattle.theory.proofs.Runs.{run-invariant}
 use Rattle.theory.proofs.Repeat.{stepOf, repeat-keeps, repeat-ends, repeat-still}
 use Rattle.theory.proofs.Steps.{pure-count, peel-next, peel-quiet, peel-falls, peel-idle, peel-fits, count-next, count-quiet, count-falls}
-use Rattle.theory.proofs.Steps.{count-idle, count-fits, never-full}
-use Rattle.theory.proofs.Steps.{peel-damaged, count-damaged, count-room}
-use Rattle.laws.specs.Upto.{lowest}
-use borrow.Author.Tests.{le-ltb}
+use Rattle.theory.proofs.Steps.{count-idle, count-fits, peel-room, peel-damaged, count-damaged}
+use Rattle.laws.specs.Upto.{anyUpto, lowest}
+use borrow.Author.Tests.{le-ltb, lt-leb}
 use Rattle.laws.proofs.Lowest.{lowest-hit, number-max}
 
--- where settling ends: at a peel that is answered with 13 or 14, or where no cell is pure at a count step, or with no cell ready
+-- where settling ends: at a peel that is answered with 14, or where no cell is pure at a count step, or with no cell ready
 pub data EndsAt (n : ℕ) (has : Placement) (s : Session) : Stop → Type 0 where
-  peeling-full : (c : ℕ) → peelPure n has s ≡ full c → EndsAt n has s (listFull c)
   peeling-damaged : (c : ℕ) → peelPure n has s ≡ damaged c → EndsAt n has s (damage c)
   after-peeling : (stop : Stop) → peelPure n has s ≡ quiet → countStep n has s ≡ stepOf stop → EndsAt n has s stop
 
@@ -58,7 +57,6 @@ module _ (n : ℕ) (has : Placement) where
         (any-none n (pure has (s .cells)) (peel-quiet n has (pure has (s .cells)) s e));
     none-ready = any-none n (ready has (counts n has s .state)) (count-quiet n has (counts n has s .state) (counts-end s ∙ ap stepOf z));
   }
-  then-rests s (listFull c) e z = absurd (let w : _≡_ {A = ℕ} 0 1 = cc in omega arith)
   then-rests s (damage c) e z = absurd (let w : _≡_ {A = ℕ} 0 1 = cc in omega arith)
 
   -- Theorem: settling that answers 0 leaves no cell pure and none ready
@@ -86,7 +84,6 @@ module _ (n : ℕ) (has : Placement) where
   then-ends : (s : Session) (stop : Stop) → peelPure n has s ≡ stepOf stop → EndsAt n has (thenCounts n has s stop .state) (thenCounts n has s stop .stop)
   unfolding thenCounts
   then-ends s settled e = after-peeling (counts n has s .stop) (counts-quiet s e) (counts-end s)
-  then-ends s (listFull c) e = peeling-full c e
   then-ends s (damage c) e = peeling-damaged c e
 
   -- Theorem: where a settling ends, the next step stops it the same way
@@ -97,7 +94,6 @@ module _ (n : ℕ) (has : Placement) where
   ends-still : (s : Session) (stop : Stop) → EndsAt n has s stop → settle n has s ≡ record { state = s; stop = stop }
   unfolding settle thenCounts
   ends-still s stop (after-peeling _ p c) = rw (peels-still s settled p) (counts-still s stop c)
-  ends-still s stop (peeling-full c e) = rw (peels-still s (listFull c) e)
   ends-still s stop (peeling-damaged c e) = rw (peels-still s (damage c) e)
 
   -- Theorem: settling what a settling left changes nothing and answers the same, 14 with its cell too; whatever the cells hold
@@ -116,7 +112,6 @@ module _ (n : ℕ) (has : Placement) where
     then-keeps : (s : Session) (stop : Stop) → I s → I (thenCounts n has s stop .state)
     unfolding thenCounts
     then-keeps s settled i = counts-keep s i
-    then-keeps s (listFull c) i = i
     then-keeps s (damage c) i = i
 
     pub settle-keeps : (s : Session) → I s → I (settle n has s .state)
@@ -143,17 +138,17 @@ module _ (n : ℕ) (has : Placement) where
       (λ t u h e. rw (peel-next n has (pure has (t .cells)) t u e .result) (handed-peel has t _ ∙ h))
       (λ t u h e. rw (count-next n has t u e .result) (handed-count has t _ _ ∙ h)) s refl
 
-  then-room : (s : Session) (stop : Stop) → Fits n s → peelPure n has s ≡ stepOf stop → (c : ℕ) → thenCounts n has s stop .stop ≡ listFull c → ⊥
-  unfolding thenCounts
-  then-room s settled f e c z = count-room n has (counts n has s .state) c (counts-end s ∙ ap stepOf z)
-  then-room s (listFull d) f e c z = never-full n has s d f e
-  then-room s (damage d) f e c z = absurd (let w : _≡_ {A = ℕ} 0 1 = cc in omega arith)
-
-  -- Theorem: a session with the room that the test of 8 asks for never meets 13, whatever its cells hold
-  pub never-13 : (s : Session) → Fits n s → (c : ℕ) → settle n has s .stop ≡ listFull c → ⊥
-  unfolding settle
-  never-13 s f c = then-room (peels n has s .state) (peels n has s .stop)
-      (peels-keep (Fits n) (peel-fits n has) (count-fits n has) s f) (peels-end s) c
+-- Theorem: a session with the room that the test of 8 asks for never meets 13, whatever its cells hold
+pub never-13 : (w : Switch) (s : Session) → Fits (w .size) s → Never13 w s
+unfolding meets13
+never-13 w s f m =
+    let n = w .size in
+    let t = repeat (peelPure n (w .has)) m s .state in
+    let g : Fits n t = repeat-keeps (peelPure n (w .has)) (Fits n) (peel-fits n (w .has)) m s f in
+    elim (split (anyUpto n (pure (w .has) (t .cells)))) [
+      | inr a ↦ rw a
+      | inl a ↦ rw (a, lt-leb (2 * n) (length (t .list)) (peel-room n (w .has) t g a))
+    ]
 
 -- ---- on the table of a flowset
 module _ (w : Switch) (e : Counted w) (s₀ : Session) (i₀ : Holds w e s₀) where
@@ -222,14 +217,12 @@ module _ (w : Switch) (e : Counted w) (s₀ : Session) (i₀ : Holds w e s₀) w
 
   peel-goes : (s : Session) → Goes s → (stop : Stop) → peelPure n has s ≡ stepOf stop → stop ≡ settled
   peel-goes s g settled e = refl
-  peel-goes s g (listFull c) e = absurd (never-full n has s c (g .fits) e)
   peel-goes s g (damage c) e =
       let p = peel-damaged n has (pure has (s .cells)) s c e in
       clash (p .1) (peel-sound s (g .run) (lowest n (pure has (s .cells))) (lowest-hit n (pure has (s .cells)) (p .0)))
 
   count-goes : (s : Session) → Goes s → (stop : Stop) → countStep n has s ≡ stepOf stop → stop ≡ settled
   count-goes s g settled e = refl
-  count-goes s g (listFull c) e = absurd (count-room n has s c e)
   count-goes s g (damage c) e =
       let p = count-damaged n has s c e in
       clash (p .1) (count-sound s (g .run) (lowest n (ready has s)) (lowest-hit n (ready has s) (p .0)))

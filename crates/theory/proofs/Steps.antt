@@ -6,18 +6,18 @@ use mathlib.Core.List.{List, [], _∷_}
 use Prim.Native.Nat.{ℕ, _+_, _-_, _*_, _≤_, _<_}
 use native.Mathlib.Omega.{arith}
 use lib.ListN.{length, length-append}
-use lib.Dec.{eqb, ltb, leb}
+use lib.Dec.{eqb, ltb}
 use Rattle.laws.specs.Upto.{anyUpto, lowest, numberUpto}
 use Rattle.laws.proofs.Bools.{split, clash, or-fl, positive-of}
 use Rattle.laws.proofs.Upto.{any-no}
 use Rattle.theory.specs.Encode.{Key, among, Placement}
-use Rattle.theory.specs.Session.{Session, unknownsOf, peeledOf, unknown, pure, ready, theUnknown, openCells, newRecord, takeOut, setCount, Step, quiet, full, damaged, next, peelDamaged, peelAt, peel, peelPure, countDamaged, countAt, countStep}
+use Rattle.theory.specs.Session.{Session, unknownsOf, peeledOf, unknown, pure, ready, theUnknown, openCells, newRecord, takeOut, setCount, Step, quiet, damaged, next, peelDamaged, peelAt, peel, peelPure, countDamaged, countAt, countStep}
 use Rattle.theory.specs.Fits.{Fits}
 use Rattle.theory.proofs.Flow.{find}
 use Rattle.theory.proofs.Sums.{sum-none}
 use Rattle.theory.proofs.Records.{list-parts, where-append, peeled-count, unknowns-fewer, handed-peel, handed-count}
 use Rattle.theory.proofs.Single.{first-ok, pure-one, pure-has, ready-one}
-use borrow.Author.Tests.{ltb-true, lt-ltb, leb-true}
+use borrow.Author.Tests.{ltb-true, lt-ltb}
 use Rattle.laws.proofs.Lowest.{lowest-lt, lowest-hit, number-le, number-lt, number-some}
 
 -- ---- a count changes no FlowXOR and no FlowCount, so it makes no cell pure
@@ -56,15 +56,13 @@ module _ (n : ℕ) (has : Placement) (s : Session) (x : Key) where
 -- ---- one peel, for any marks
 pub record Peels (n : ℕ) (has : Placement) (marks : ℕ → Bool) (s t : Session) : Type 0 where
   pub marked : anyUpto n marks ≡ true
-  pub room : leb (2 * n) (length (s .list)) ≡ false
   pub sound : peelDamaged n has s (s .cells (lowest n marks) .flowXor) ≡ false
   pub result : t ≡ takeOut has false (s .cells (lowest n marks) .flowXor) s
 
 -- the ways a peel ends
 pub data Peeling (n : ℕ) (has : Placement) (marks : ℕ → Bool) (s : Session) : Step Session → Type 0 where
   none-marked : anyUpto n marks ≡ false → Peeling n has marks s quiet
-  no-room : anyUpto n marks ≡ true → leb (2 * n) (length (s .list)) ≡ true → Peeling n has marks s (full (lowest n marks))
-  broken : anyUpto n marks ≡ true → leb (2 * n) (length (s .list)) ≡ false → peelDamaged n has s (s .cells (lowest n marks) .flowXor) ≡ true
+  broken : anyUpto n marks ≡ true → peelDamaged n has s (s .cells (lowest n marks) .flowXor) ≡ true
       → Peeling n has marks s (damaged (lowest n marks))
   taken : {t : Session} → Peels n has marks s t → Peeling n has marks s (next t)
 
@@ -73,12 +71,9 @@ module _ (n : ℕ) (has : Placement) (marks : ℕ → Bool) (s : Session) where
   unfolding peel peelAt
   peeling = elim (split (anyUpto n marks)) [
     | inr a ↦ rw a (none-marked a)
-    | inl a ↦ elim (split (leb (2 * n) (length (s .list)))) [
-      | inl b ↦ rw (a, b) (no-room a b)
-      | inr b ↦ elim (split (peelDamaged n has s (s .cells (lowest n marks) .flowXor))) [
-        | inl d ↦ rw (a, b, d) (broken a b d)
-        | inr d ↦ rw (a, b, d) (taken (record { marked = a; room = b; sound = d; result = refl }))
-      ]
+    | inl a ↦ elim (split (peelDamaged n has s (s .cells (lowest n marks) .flowXor))) [
+      | inl d ↦ rw (a, d) (broken a d)
+      | inr d ↦ rw (a, d) (taken (record { marked = a; sound = d; result = refl }))
     ]
   ]
 
@@ -94,26 +89,14 @@ module _ (n : ℕ) (has : Placement) (marks : ℕ → Bool) (s : Session) where
       go : Peeling n has marks s quiet → anyUpto n marks ≡ false
       go (none-marked a) = a
 
-  pub peel-full : (c : ℕ) → peel n has marks s ≡ full c → (anyUpto n marks ≡ true) × (leb (2 * n) (length (s .list)) ≡ true)
-  peel-full c e = go (subst (Peeling n has marks s) e peeling)
-    where
-      go : {d : ℕ} → Peeling n has marks s (full d) → (anyUpto n marks ≡ true) × (leb (2 * n) (length (s .list)) ≡ true)
-      go (no-room a b) = (a, b)
-
   pub peel-damaged : (c : ℕ) → peel n has marks s ≡ damaged c
       → (anyUpto n marks ≡ true) × (peelDamaged n has s (s .cells (lowest n marks) .flowXor) ≡ true)
   peel-damaged c e = go (subst (Peeling n has marks s) e peeling)
     where
       go : {d : ℕ} → Peeling n has marks s (damaged d) → (anyUpto n marks ≡ true) × (peelDamaged n has s (s .cells (lowest n marks) .flowXor) ≡ true)
-      go (broken a b d) = (a, d)
+      go (broken a d) = (a, d)
 
 -- ---- one count step
-abbrev HasRoom : Step Session → Type 0
-HasRoom quiet = Unit {0}
-HasRoom (full c) = ⊥
-HasRoom (damaged c) = Unit {0}
-HasRoom (next t) = Unit {0}
-
 pub record Counts (n : ℕ) (has : Placement) (s t : Session) : Type 0 where
   pub is-ready : anyUpto n (ready has s) ≡ true
   pub sound : countDamaged n has s (theUnknown has (s .list) (lowest n (ready has s))) (s .cells (lowest n (ready has s)) .packetCount) ≡ false
@@ -165,14 +148,6 @@ module _ (n : ℕ) (has : Placement) (s : Session) where
   unfolding countDamaged
   count-positive x v h = positive-of v (or-fl (eqb v 0) (anyUpto n (λ c. has x c && ltb (s .cells c .packetCount) v)) h)
 
-  pub count-room : (c : ℕ) → countStep n has s ≡ full c → ⊥
-  count-room c e = subst HasRoom e (has-room counting)
-    where
-      has-room : {v : Step Session} → Counting n has s v → HasRoom v
-      has-room (none-ready a) = tt
-      has-room (miscounted a d) = tt
-      has-room (counted-next p) = tt
-
   -- the flow that a ready cell names is unknown
   pub ready-names : (c : ℕ) → ready has s c ≡ true → unknown s (theUnknown has (s .list) c) ≡ true
   ready-names c p = elim (find (λ k. has k c) (unknownsOf (s .list))) [
@@ -220,7 +195,7 @@ module _ (n : ℕ) (has : Placement) where
 pub fits-length : (n : ℕ) (s : Session) → Fits n s → length (s .list) ≤ 2 * n
 fits-length n s f = omega (arith, list-parts (s .list), f .handed-room, f .peeled-room)
 
--- ---- each step keeps the room, and 13 is never given
+-- ---- each step keeps the room, and a peel finds some
 module _ (n : ℕ) (has : Placement) where
   peeled-take : (s : Session) (x : Key) → length (peeledOf (takeOut has false x s .list)) ≡ length (peeledOf (s .list)) + 1
   unfolding takeOut
@@ -247,11 +222,11 @@ module _ (n : ℕ) (has : Placement) where
         peeled-room = rw (open-count n has s x v, peeled-count has s x v) (f .peeled-room);
       })
 
-  pub never-full : (s : Session) (c : ℕ) → Fits n s → peelPure n has s ≡ full c → ⊥
-  never-full s c f e =
-      let p = peel-full n has (pure has (s .cells)) s c e in
-      let b = lowest n (pure has (s .cells)) in
-      let one = pure-one has s b (lowest-hit n (pure has (s .cells)) (p .0)) in
+  -- a peel finds room in the list: the cell it starts from is open
+  pub peel-room : (s : Session) → Fits n s → anyUpto n (pure has (s .cells)) ≡ true → length (s .list) < 2 * n
+  peel-room s f a =
+      let c = lowest n (pure has (s .cells)) in
+      let one = pure-one has s c (lowest-hit n (pure has (s .cells)) a) in
       let some-open : 0 < openCells n (s .cells) = unfold openCells in
-      number-some n (λ j. ltb 0 (s .cells j .flowCount)) b (lowest-lt n (pure has (s .cells)) (p .0)) (rw one) in
-      omega (arith, leb-true (2 * n) (length (s .list)) (p .1), list-parts (s .list), f .handed-room, f .peeled-room)
+      number-some n (λ j. ltb 0 (s .cells j .flowCount)) c (lowest-lt n (pure has (s .cells)) a) (rw one) in
+      omega (arith, list-parts (s .list), f .handed-room, f .peeled-room)

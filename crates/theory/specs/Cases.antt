@@ -5,7 +5,7 @@ use mathlib.Core.Option.{Option, some, none}
 use Prim.Native.Nat.{ℕ}
 use lib.Dec.{eqb}
 use Rattle.theory.specs.Encode.{Key, sameKey, Table, Placement, emptyTable, encode}
-use Rattle.theory.specs.Session.{Record, Session, opened, Stop, settled, listFull, damage, settle}
+use Rattle.theory.specs.Session.{Record, Session, opened, Stop, settled, damage, settle}
 use Rattle.theory.specs.HandOver.{Switch, handAnswer, handOver, Call, hand, settling, calls}
 use Rattle.theory.specs.Report.{State, stuck, short, whole, report}
 
@@ -54,7 +54,6 @@ linesOf (r ∷ rs) = record { key = r .key; count = cond (r .known) (some (r .co
 
 unfoldable pub standing : Session → Stop → Outcome
 standing s settled = stands (linesOf (s .list)) (report 4 s .opens) (report 4 s .state)
-standing s (listFull j) = refused 13
 standing s (damage j) = fourteen j
 
 unfoldable pub lastOutcome : Switch → Session → Call → Outcome

@@ -47,7 +47,7 @@ pub record Shown : Type 0 where
   pub number : ℕ
   pub settled : Session
 
--- demand 2 of a session after any calls: what stands is true and is reported, and a settling answers 0, no 13 and no 14, and stops only at its end
+-- demand 2 of a session after any calls: what stands is true and is reported, and a settling answers 0, no 14, and stops only at its end
 pub record Demand2 (size keyLength : ℕ) (has : Placement) (F : List Key) (packets : Key → ℕ) (d : Shown) : Type 0 where
   pub truthful : Truthful keyLength has F packets (d .stands)
   pub reports : d .told ≡ some (report size (d .stands))

@@ -6,7 +6,7 @@ use Prim.Native.Nat.{ℕ, zero, suc, _+_, _*_}
 use lib.ListN.{length}
 use lib.Dec.{eqb, ltb}
 use Rattle.theory.specs.Encode.{Key, among}
-use Rattle.theory.specs.Session.{Session, keysOf, listed, countOf, Stop, settled, listFull, damage}
+use Rattle.theory.specs.Session.{Session, keysOf, listed, countOf, Stop, settled, damage}
 use Rattle.theory.specs.HandOver.{Switch, handAnswer, handOver, calls, handEach, settleAt}
 use Rattle.theory.specs.Runs.{PeelClosed}
 use Rattle.theory.specs.Invariant.{Counted, received}
@@ -18,7 +18,7 @@ pub record Pair : Type 0 where
   pub b : Session
   pub twelves : ℕ
 
--- 01 'A session', Exchange: "A 13 or 14 ends it and names the switch and the cell"
+-- 01 'A session', Exchange: "A 13 or 14 ends it and names the switch and the cell"; 02 l takes out 13
 pub data Ending : Type 0 where
   finished : Ending
   stoppedA : Stop → Ending
@@ -50,13 +50,11 @@ handBoth A B p =
 -- B's settling ended so
 abbrev pub afterB : Session → Session → ℕ → Stop → Exchanged
 afterB s t n settled = record { pair = record { a = s; b = t; twelves = n }; ending = finished }
-afterB s t n (listFull c) = record { pair = record { a = s; b = t; twelves = n }; ending = stoppedB (listFull c) }
 afterB s t n (damage c) = record { pair = record { a = s; b = t; twelves = n }; ending = stoppedB (damage c) }
 
 -- A's settling ended so: B is settled only where A's went through
 abbrev pub afterA : Switch → Session → Session → ℕ → Stop → Exchanged
 afterA B s t n settled = afterB s (settleAt B t .state) n (settleAt B t .stop)
-afterA B s t n (listFull c) = record { pair = record { a = s; b = t; twelves = n }; ending = stoppedA (listFull c) }
 afterA B s t n (damage c) = record { pair = record { a = s; b = t; twelves = n }; ending = stoppedA (damage c) }
 
 -- A settled, then B, unless A's settling stops

@@ -7,19 +7,19 @@ use lib.ListN.{length}
 use lib.Dec.{eqb, ltb}
 use Rattle.laws.specs.Upto.{anyUpto}
 use Rattle.theory.specs.Encode.{Key, among}
-use Rattle.theory.specs.Session.{Session, keysOf, listed, Stop, settled, listFull, damage}
+use Rattle.theory.specs.Session.{Session, keysOf, listed, Stop, settled, damage}
 use Rattle.theory.specs.HandOver.{Switch, settleAt}
 use Rattle.theory.specs.Runs.{PeelClosed}
 use Rattle.theory.specs.Invariant.{Counted}
 use Rattle.theory.specs.Demands.{HandedCounted}
-use Rattle.theory.specs.Exchange.{handAll, twelvesIn}
+use Rattle.theory.specs.Exchange.{Pair, handAll, twelvesIn}
 
 -- the session of each switch, and the number of answers 12 so far
 pub record Family : Type 0 where
   pub session : ℕ → Session
   pub twelves : ℕ
 
--- 01 'A session', Exchange: "A 13 or 14 ends it and names the switch and the cell"
+-- 01 'A session', Exchange: "A 13 or 14 ends it and names the switch and the cell"; 02 l takes out 13
 pub data FamilyEnding : Type 0 where
   ended : FamilyEnding
   stoppedAt : ℕ → Stop → FamilyEnding
@@ -80,7 +80,6 @@ andThen go r (stoppedAt i s) = r
 -- switch i's settling ended so
 abbrev pub endingAt : ℕ → Stop → FamilyEnding
 endingAt i settled = ended
-endingAt i (listFull c) = stoppedAt i (listFull c)
 endingAt i (damage c) = stoppedAt i (damage c)
 
 -- switch i settled
@@ -122,6 +121,17 @@ roundsRoom n W = sumUpto n (λ i. 2 * W i .size)
 -- 01 'A session', Exchange: "settle A, settle B; a round .."
 unfoldable pub exchangeAlong : ℕ → (ℕ → Switch) → List Way → Family → Ended
 exchangeAlong n W l p = andThen (roundsAlong n W l (roundsRoom n W + 1)) (settleUpto W n p) (settleUpto W n p .ending)
+
+-- ---- two switches as a family
+abbrev pub two : {T : Type 0} → T → T → ℕ → T
+two x y zero = x
+two x y (suc i) = y
+
+abbrev pub familyOf : Pair → Family
+familyOf p = record { session = two (p .a) (p .b); twelves = p .twelves }
+
+abbrev pub onePair : List Way
+onePair = bothWays (record { from = 0; to = 1 } ∷ [])
 
 -- ---- what it ends in
 -- demand 2's premise at each switch: every flow handed over was counted there

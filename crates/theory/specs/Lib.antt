@@ -9,6 +9,7 @@ pub mod Runs
 pub mod Demands
 pub mod Exchange
 pub mod Family
+pub mod Thirteen
 pub mod Notes
 pub mod Proper
 pub mod Cases

@@ -7,7 +7,7 @@ use lib.Dec.{eqb}
 use lib.ListN.{length, getD, set}
 use Rattle.laws.specs.Upto.{anyUpto, lowest}
 use Rattle.theory.specs.Encode.{Key, Placement}
-use Rattle.theory.specs.Session.{Record, Session, unknownsOf, pure, unknownsIn, newRecord, toldRecord, takeOut, setCount, Step, quiet, full, damaged, next, Stop, settled, listFull, damage, Result, repeat, peel, countDamaged}
+use Rattle.theory.specs.Session.{Record, Session, unknownsOf, pure, unknownsIn, newRecord, toldRecord, takeOut, setCount, Step, quiet, damaged, next, Stop, settled, damage, Result, repeat, peel, countDamaged}
 use Rattle.theory.specs.HandOver.{Switch, handAnswer}
 
 -- 01 'A session': a mark, "the number of listed flows in it whose count is unknown, and the XOR of their list positions, from 0"
@@ -62,7 +62,6 @@ noteTold has x position m = record {
 -- a step or a result with its state mapped
 abbrev pub mapStep : {S T : Type 0} → (S → T) → Step S → Step T
 mapStep h quiet = quiet
-mapStep h (full c) = full c
 mapStep h (damaged c) = damaged c
 mapStep h (next s) = next (h s)
 
@@ -99,10 +98,9 @@ countNoted n has t =
     })))
     quiet
 
--- a 13 or 14 while peeling ends the settling
+-- a 14 while peeling ends the settling
 unfoldable pub thenCountsNoted : ℕ → Placement → Noted → Stop → Result Noted
 thenCountsNoted n has t settled = repeat (countNoted n has) (length (unknownsOf (t .session .list))) t
-thenCountsNoted n has t (listFull c) = record { state = t; stop = listFull c }
 thenCountsNoted n has t (damage c) = record { state = t; stop = damage c }
 
 -- settling by the marks and per-cell numbers that stand there

@@ -2,8 +2,8 @@
 use mathlib.Core.Bool.{Bool, true, false, not, cond, _&&_, _||_}
 use mathlib.Core.List.{List, [], _∷_, _++_}
 use mathlib.Core.Option.{Option, some, none}
-use Prim.Native.Nat.{ℕ, _-_, zero, suc, _*_}
-use lib.Dec.{eqb, ltb, leb}
+use Prim.Native.Nat.{ℕ, _-_, zero, suc}
+use lib.Dec.{eqb, ltb}
 use Rattle.laws.specs.Xor.{xorBytes}
 use Rattle.laws.specs.Upto.{anyUpto, numberUpto, lowest}
 use Rattle.theory.specs.Encode.{Key, sameKey, among, count, Table, Placement}
@@ -133,23 +133,20 @@ setCount has x v s = record {
 }
 
 -- ---- settling: one peel for any marks, one count step, and each repeated while a cell is marked or ready
--- what one step does: no cell to start from, 13 or 14 with the cell it starts from, or the next state
+-- what one step does: no cell to start from, 14 with the cell it starts from, or the next state
 pub data Step (S : Type 0) : Type 0 where
   quiet : Step S
-  full : ℕ → Step S
   damaged : ℕ → Step S
   next : S → Step S
 
 -- how settling ended
 pub data Stop : Type 0 where
   settled : Stop
-  listFull : ℕ → Stop
   damage : ℕ → Stop
 
--- 01's table of numbers: 0 done, 13 and 14 settle
+-- 01's table of numbers: 0 done, 14 settle
 abbrev pub stopNumber : Stop → ℕ
 stopNumber settled = 0
-stopNumber (listFull c) = 13
 stopNumber (damage c) = 14
 
 -- how it ended, and what stands then: "earlier steps stand"
@@ -160,7 +157,6 @@ pub record Result (S : Type 0) : Type 0 where
 -- a step ends it, or it goes on from the next state
 unfoldable pub afterStep : {S : Type 0} → (S → Result S) → S → Step S → Result S
 afterStep go s quiet = record { state = s; stop = settled }
-afterStep go s (full c) = record { state = s; stop = listFull c }
 afterStep go s (damaged c) = record { state = s; stop = damage c }
 afterStep go s (next t) = go t
 
@@ -173,11 +169,9 @@ repeat f (suc m) s = afterStep (repeat f m) s (f s)
 unfoldable pub peelDamaged : ℕ → Placement → Session → Key → Bool
 peelDamaged n has s x = listed s x || hasEmptyCell n has (s .cells) x
 
--- 01 'A session': "13 is given before a peel, ahead of 14, when 2 N flows are listed"
+-- the peel from a marked cell
 unfoldable pub peelAt : ℕ → Placement → Session → ℕ → Step Session
-peelAt n has s c =
-    cond (leb (2 * n) (length (s .list))) (full c)
-    (cond (peelDamaged n has s (s .cells c .flowXor)) (damaged c) (next (takeOut has false (s .cells c .flowXor) s)))
+peelAt n has s c = cond (peelDamaged n has s (s .cells c .flowXor)) (damaged c) (next (takeOut has false (s .cells c .flowXor) s))
 
 -- one peel for any marks: 01 'A session': "it starts from the lowest one set"
 unfoldable pub peel : ℕ → Placement → (ℕ → Bool) → Session → Step Session
@@ -208,10 +202,9 @@ peels n has s = repeat (peelPure n has) n s
 abbrev pub counts : ℕ → Placement → Session → Result Session
 counts n has s = repeat (countStep n has) (length (unknownsOf (s .list))) s
 
--- a 13 or 14 while peeling ends the settling
+-- a 14 while peeling ends the settling
 unfoldable pub thenCounts : ℕ → Placement → Session → Stop → Result Session
 thenCounts n has s settled = counts n has s
-thenCounts n has s (listFull c) = record { state = s; stop = listFull c }
 thenCounts n has s (damage c) = record { state = s; stop = damage c }
 
 -- 01 'A session', Settle: "while a cell is marked, take out .. Then, while a cell is ready"

@@ -63,21 +63,18 @@ settled-listed : (slot salt : ℕ) (numbers : Session) (m : Memory) (a : Settled
     → settledLines slot salt m a ≡ listedLines slot salt (afterSettle numbers a .listed) (m .table .flows) (m .list)
 unfolding settledLines
 settled-listed slot salt numbers m (settled.Done n) e = refl
-settled-listed slot salt numbers m (settled.Full n c) e = absurd (omega arith)
 settled-listed slot salt numbers m (settled.Damaged n c) e = absurd (omega arith)
 settled-listed slot salt numbers m settled.NotSession e = absurd (omega arith)
 settled-listed slot salt numbers m settled.BadRoom e = absurd (omega arith)
 
 pub same-sizes : (numbers : Session) (a : Settled) → afterSettle numbers a .sizes ≡ numbers .sizes
 same-sizes numbers (settled.Done n) = refl
-same-sizes numbers (settled.Full n c) = refl
 same-sizes numbers (settled.Damaged n c) = refl
 same-sizes numbers settled.NotSession = refl
 same-sizes numbers settled.BadRoom = refl
 
 stop-0 : (a : Stop) → stopNumber a ≡ 0 → a ≡ theory.settled
 stop-0 theory.settled e = refl
-stop-0 (theory.listFull c) e = absurd (omega arith)
 stop-0 (theory.damage c) e = absurd (omega arith)
 
 -- where no count is unknown, all are known

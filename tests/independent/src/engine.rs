@@ -5,7 +5,7 @@ use crate::places::Placement;
 use crate::refusal::Refusal;
 use crate::table::{Cell, Table};
 
-/// 13 or 14, and the cell the step started from.
+/// 14, and the cell the step started from.
 #[derive(Clone, Copy, PartialEq, Eq, Debug)]
 pub struct Damage {
     pub refusal: Refusal,

@@ -47,15 +47,39 @@ const NOT_A_SESSION: [Refusal; 8] =
 
 const OPENED: [&str; 8] =
     ["0", "1 block 0", "2 block 0", "2 later block", "3 block 0", "3 later block", "4 later block", "5 block 0"];
-const REPORTED: [&str; 3] = ["0 whole", "0 short", "0 stuck"];
-const SETTLED: [&str; 5] = ["0", "14 PeelListed", "14 PeelEmptyCell", "14 CountZero", "14 CountOver"];
-const HANDED_OVER: [&str; 5] = ["0", "9", "10", "11", "12"];
-const EXCHANGED: [&str; 10] = [
+const REPORTED: [&str; 4] = ["0 whole", "0 short", "0 stuck", "0 with 2 N listed"];
+const SETTLED: [&str; 8] = [
+    "0",
+    "0 with 2 N listed",
+    "0 grown to 2 N - k + 1 listed",
+    "14 PeelListed",
+    "14 PeelEmptyCell",
+    "14 CountZero",
+    "14 CountOver",
+    "14 with 2 N - 1 listed",
+];
+const HANDED_OVER: [&str; 10] = [
+    "0",
+    "0 grown to 2 N - k listed",
+    "9",
+    "9 with 2 N listed",
+    "10",
+    "10 with 2 N listed",
+    "11",
+    "11 with 2 N listed",
+    "12",
+    "12 with 2 N - k listed",
+];
+const EXCHANGED: [&str; 14] = [
     "0",
     "0 with answers 12",
+    "0 with 2 N listed",
+    "0 grown to 2 N - k + 1 listed",
+    "0 grown from none to 2 N - k + 1 listed",
     "14 at A",
     "14 at B",
     "14 with answers 12",
+    "14 with 2 N - 1 listed",
     "15",
     "8 at A",
     "8 at B",
@@ -63,8 +87,8 @@ const EXCHANGED: [&str; 10] = [
     "16 at B",
 ];
 
-/// All that requests on sessions can answer; 13 alone cannot occur, for the test of 8 rules it out. Each reason for 8
-/// and each slice for 16 occurs in every call as the only one.
+/// All that requests on sessions can answer. Each reason for 8 and each slice for 16 occurs in every call as the only
+/// one. Lists occur as long as the test of 8, a peel and a hand-over let them get, and one flow or open cell past that.
 pub fn expected_session_kinds() -> Vec<String> {
     let calls: [(&str, &[&str]); 5] = [
         ("open", &OPENED),
@@ -80,7 +104,13 @@ pub fn expected_session_kinds() -> Vec<String> {
         kinds.extend(SLICES.map(|slice| refused_kind(call, Room(slice))));
         if call != "open" {
             kinds.extend(of_call(call, &[&NOT_A_SESSION]));
+            kinds.extend([OverHanded, OverPeeled].map(|reason| refused_kind(call, reason) + " with 2 N listed"));
         }
+    }
+    // One peeled flow too many, and one open cell: two ways to exceed N.
+    let over_peeled = |call| refused_kind(call, OverPeeled) + " with 2 N listed, ";
+    for call in ["report", "settle"] {
+        kinds.extend(["a cell open", "none open"].map(|open| over_peeled(call) + open));
     }
     kinds
 }
@@ -95,23 +125,31 @@ pub fn expected_call_kinds() -> Vec<String> {
     kinds
 }
 
-const STEPS: [&str; 17] = [
+const STEPS: [&str; 25] = [
     "settle 0",
+    "settle 0 with 2 N listed",
+    "settle 0 grown to 2 N - k + 1 listed",
     "settle 8",
     "settle 14",
     "settle 16",
     "hand-over 0",
+    "hand-over 0 grown to 2 N - k listed",
     "hand-over 8",
     "hand-over 9",
+    "hand-over 9 with 2 N listed",
     "hand-over 10",
+    "hand-over 10 with 2 N listed",
     "hand-over 11",
+    "hand-over 11 with 2 N listed",
     "hand-over 12",
+    "hand-over 12 with 2 N - k listed",
     "hand-over 16",
     "report whole",
     "report short",
     "report stuck",
     "report 8",
     "report 16",
+    "grown from none to 2 N - k + 1 listed",
     "length",
 ];
 

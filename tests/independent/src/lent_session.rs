@@ -57,6 +57,9 @@ pub struct LentSession {
     pub memory: Lent,
 }
 
+/// Of a list that a call has made longer than any call can.
+pub const PAST: &str = "grown past 2 N - k + 1 listed";
+
 impl LentSession {
     /// In memory that was all zeros before.
     pub fn of<E: Resumed>(session: &Session<E>) -> Self {
@@ -121,6 +124,29 @@ impl LentSession {
     pub fn reasons(&self) -> Vec<Refusal> {
         let placement = Hashed::new(self.header.sizes, self.header.salt);
         self.session::<Fresh>().map_or_else(|reason| vec![reason], |session| session.engine.reasons(&placement))
+    }
+
+    /// Where the list has one of the lengths that end its growth, or has grown past them, which, and whether it had fewer
+    /// flows `before`. The test of 8 lets 2 N pass, a peel makes 2 N - k + 1 at most, a hand-over 2 N - k; one length may
+    /// have two names.
+    pub fn edges(&self, before: u32) -> Vec<String> {
+        if self.check_sizes().is_err() {
+            return Vec::new();
+        }
+        let (most, k) = (2 * self.header.sizes.cells(), usize::from(self.header.sizes.k));
+        let lengths = [("2 N", most), ("2 N - 1", most - 1), ("2 N - k + 1", most - k + 1), ("2 N - k", most - k)];
+        let reached = match before {
+            _ if self.listed == before => "with",
+            0 => "grown from none to",
+            _ => "grown to",
+        };
+        let here = lengths.into_iter().filter(|&(_, length)| self.listed as usize == length);
+        let past = self.listed > before && self.listed as usize > most - k + 1;
+        here.map(|(name, _)| format!("{reached} {name} listed")).chain(past.then(|| PAST.to_string())).collect()
+    }
+
+    pub fn has_open_cell(&self) -> bool {
+        self.memory.bytes(Slice::Flows).iter().any(|&byte| byte != 0)
     }
 
     /// Writes what a session holds. Records past its list stay as they are.

@@ -50,8 +50,6 @@ pub enum Refusal {
     Listed,
     EmptyCell,
     HandedFull,
-    // 13
-    ListFull,
     // 14, a peel or a count
     PeelListed,
     PeelEmptyCell,
@@ -85,7 +83,6 @@ impl Refusal {
             Listed => 10,
             EmptyCell => 11,
             HandedFull => 12,
-            ListFull => 13,
             PeelListed | PeelEmptyCell | CountZero | CountOver => 14,
             OtherSlot => 15,
             FilterRoom | CellsRoom | ImageRoom | MarksRoom | NumbersRoom | Room(_) => 16,

@@ -55,10 +55,9 @@ impl Rescanning {
     }
 
     fn peel<P: Placement>(&mut self, placement: &P, cell: usize) -> Result<(), Damage> {
+        self.table.assert_room();
         let key = self.table.cells[cell].flow_xor;
-        if self.table.list.len() == 2 * self.table.cells.len() {
-            Err(Damage { refusal: Refusal::ListFull, cell })
-        } else if self.is_listed(&key) {
+        if self.is_listed(&key) {
             Err(Damage { refusal: Refusal::PeelListed, cell })
         } else if self.has_empty_cell(placement, &key) {
             Err(Damage { refusal: Refusal::PeelEmptyCell, cell })

@@ -76,12 +76,16 @@ pub fn answer_sequence(payload: &[u8]) -> Answer {
     let Some((mut session, steps)) = parse_sequence(payload) else {
         return Answer::new("length", "sequence length");
     };
+    let begun = session.listed;
     let (mut words, mut kinds) = (Vec::new(), Vec::new());
     for step in &steps {
+        let before = session.listed;
         let (word, kind) = answer_step(&mut session, step);
         words.push(word);
+        kinds.extend(session.edges(before).iter().map(|edge| format!("sequence {kind} {edge}")));
         kinds.push(format!("sequence {kind}"));
     }
+    kinds.extend(session.edges(begun).iter().map(|edge| format!("sequence {edge}")));
     words.push(session.listed.to_string());
     words.extend(session.memory.words());
     Answer { line: words.join(" "), kinds }

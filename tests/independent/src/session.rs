@@ -32,7 +32,7 @@ impl<E: Engine> Session<E> {
         self.checked()?.hand_over(key)
     }
 
-    /// The outer refusal is 8 or 16, the inner one 13 or 14.
+    /// The outer refusal is 8 or 16, the inner one 14.
     pub fn settle(&mut self) -> Result<Result<(), Damage>, Refusal> {
         Ok(self.checked()?.settle())
     }

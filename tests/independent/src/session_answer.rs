@@ -4,11 +4,12 @@
 //! |---|---|
 //! | 6 open | number and block, and for 0 kf, F, k, q, salt, slot and listed |
 //! | 7 report | `0` with listed, counted, open and state, or a number |
-//! | 8 settle | `0` with listed, 13 or 14 with listed and cell, or a number |
+//! | 8 settle | `0` with listed, 14 with listed and cell, or a number |
 //! | 9 hand-over | `0` with listed, or a number |
-//! | 10 exchange | `0`, or 13 or 14 with switch and cell, and then the answers 12 and both listed; or a number |
+//! | 10 exchange | `0`, or 14 with switch and cell, and then the answers 12 and both listed; or a number |
 //!
-//! The first kind of an answer is its call and number, so that these add up to the requests; the others say why.
+//! The first kind of an answer is its call and number, so that these add up to the requests; the others say why, and
+//! where a list is as long as it gets.
 
 use crate::answer::{call_name, Answer};
 use crate::engine::Damage;
@@ -37,6 +38,13 @@ pub fn answer<E: Resumed>(request: &Request) -> Answer {
 
 fn kind(call: &str, answer: impl std::fmt::Display) -> String {
     format!("{call} {answer}")
+}
+
+/// The number, and where that leaves each session's list; with how many were listed before.
+fn kinds_of(call: &str, number: u8, sessions: &[(u32, &LentSession)]) -> Vec<String> {
+    let edges = sessions.iter().flat_map(|(before, after)| after.edges(*before));
+    let with_edges = edges.map(|edge| kind(call, format!("{number} {edge}")));
+    std::iter::once(kind(call, number)).chain(with_edges).collect()
 }
 
 fn line(words: String, memories: &[&Lent], kinds: Vec<String>) -> Answer {
@@ -75,10 +83,11 @@ fn open<E: Resumed>(asked: &Open) -> Answer {
 fn report<E: Resumed>(before: &LentSession) -> Answer {
     let mut after = before.clone();
     let (words, kinds) = match after.call(|session: &mut Session<E>| session.report()) {
-        Ok(report) => (
-            format!("0 {} {} {} {}", report.listed, report.counted, report.open, report.state),
-            vec![kind("report", 0), kind("report", format!("0 {}", report.state))],
-        ),
+        Ok(report) => {
+            let mut kinds = kinds_of("report", 0, &[(before.listed, &after)]);
+            kinds.push(kind("report", format!("0 {}", report.state)));
+            (format!("0 {} {} {} {}", report.listed, report.counted, report.open, report.state), kinds)
+        }
         Err(refusal) => refused("report", refusal, &[before]),
     };
     line(words, &[&after.memory], kinds)
@@ -88,10 +97,11 @@ fn settle<E: Resumed>(before: &LentSession) -> Answer {
     let mut after = before.clone();
     let answer = after.call(|session: &mut Session<E>| session.settle());
     let (words, kinds) = match answer {
-        Ok(Ok(())) => (format!("0 {}", after.listed), vec![kind("settle", 0)]),
+        Ok(Ok(())) => (format!("0 {}", after.listed), kinds_of("settle", 0, &[(before.listed, &after)])),
         Ok(Err(Damage { refusal, cell })) => {
             let number = refusal.number();
-            let kinds = vec![kind("settle", number), kind("settle", format!("{number} {refusal:?}"))];
+            let mut kinds = kinds_of("settle", number, &[(before.listed, &after)]);
+            kinds.push(kind("settle", format!("{number} {refusal:?}")));
             (format!("{number} {} {cell}", after.listed), kinds)
         }
         Err(refusal) => refused("settle", refusal, &[before]),
@@ -103,7 +113,7 @@ fn hand_over<E: Resumed>(before: &LentSession, key: &KeyBytes) -> Answer {
     let mut after = before.clone();
     let answer = after.call(|session: &mut Session<E>| session.hand_over(key));
     let (words, kinds) = match answer {
-        Ok(()) => (format!("0 {}", after.listed), vec![kind("hand-over", 0)]),
+        Ok(()) => (format!("0 {}", after.listed), kinds_of("hand-over", 0, &[(before.listed, &after)])),
         Err(refusal) => refused("hand-over", refusal, &[before]),
     };
     line(words, &[&after.memory], kinds)
@@ -112,7 +122,10 @@ fn hand_over<E: Resumed>(before: &LentSession, key: &KeyBytes) -> Answer {
 fn exchange_both<E: Resumed>(before_a: &LentSession, before_b: &LentSession) -> Answer {
     let (mut a, mut b) = (before_a.clone(), before_b.clone());
     let (words, kinds) = match exchange_lent::<E>(&mut a, &mut b) {
-        Ok(exchanged) => (exchanged_words(exchanged, a.listed, b.listed), exchanged_kinds(exchanged)),
+        Ok(exchanged) => {
+            let sessions = [(before_a.listed, &a), (before_b.listed, &b)];
+            (exchanged_words(exchanged, a.listed, b.listed), exchanged_kinds(exchanged, &sessions))
+        }
         Err(refusal) => refused("exchange", refusal, &[before_a, before_b]),
     };
     line(words, &[&a.memory, &b.memory], kinds)
@@ -137,9 +150,9 @@ fn exchanged_words(Exchanged { handed_full, damage }: Exchanged, listed_a: u32, 
     format!("{ended} {handed_full} {listed_a} {listed_b}")
 }
 
-fn exchanged_kinds(Exchanged { handed_full, damage }: Exchanged) -> Vec<String> {
+fn exchanged_kinds(Exchanged { handed_full, damage }: Exchanged, sessions: &[(u32, &LentSession)]) -> Vec<String> {
     let number = damage.map_or(0, |(_, damage)| damage.refusal.number());
-    let mut kinds = vec![kind("exchange", number)];
+    let mut kinds = kinds_of("exchange", number, sessions);
     if let Some((switch, _)) = damage {
         kinds.push(kind("exchange", format!("{number} at {switch:?}")));
     }
@@ -152,11 +165,18 @@ fn exchanged_kinds(Exchanged { handed_full, damage }: Exchanged) -> Vec<String> 
 /// The number alone, and its kinds: with the reason, where it is the only one and a test of the session found it.
 fn refused(call: &str, refusal: Refusal, sessions: &[&LentSession]) -> (String, Vec<String>) {
     let number = refusal.number();
-    let mut kinds = vec![kind(call, number)];
+    let kept: Vec<(u32, &LentSession)> = sessions.iter().map(|session| (session.listed, *session)).collect();
+    let mut kinds = kinds_of(call, number, &kept);
     match faults(sessions)[..] {
         [] => {}
         [(session, fault)] => {
             kinds.push(kind(call, format!("{number} {fault:?}")));
+            let edges = sessions[session].edges(sessions[session].listed);
+            let open = if sessions[session].has_open_cell() { "a cell open" } else { "none open" };
+            for edge in edges {
+                kinds.push(kind(call, format!("{number} {fault:?} {edge}")));
+                kinds.push(kind(call, format!("{number} {fault:?} {edge}, {open}")));
+            }
             if sessions.len() > 1 {
                 kinds.push(kind(call, format!("{number} at {}", ["A", "B"][session])));
             }

@@ -21,7 +21,7 @@ pub fn run(tally: &mut Tally) {
         cases::ten_cases,
         cases::off_clean,
         peels::any_marks,
-        peels::full_list,
+        peels::last_record,
         tiny::engines_agree,
         sequences::engines_agree,
         clean::clean_sessions,
@@ -37,18 +37,18 @@ pub fn run(tally: &mut Tally) {
         lines::damaged_by_hand,
         lines::carried,
         lines::lengths,
-        lines::listed,
+        lines::longest,
         requests::chains,
         requests::shrinking,
         requests::generated,
+        requests::for_calls,
     ] {
         group(tally);
     }
     tally.must_have_met(possible_answers());
 }
 
-/// All that a session can answer but 13, which the test of 8 rules out: a peel closes a cell, and peeled plus open cells
-/// are at most N.
+/// All that a session can answer.
 fn possible_answers() -> Vec<String> {
     let kinds = |call, refusals: &[Refusal]| refusals.iter().map(|&one| refused_kind(call, one)).collect::<Vec<_>>();
     [

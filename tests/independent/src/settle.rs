@@ -13,15 +13,14 @@ impl Marked {
         Ok(())
     }
 
-    /// One peel. It trusts the marks, right or wrong, and changes none but those of the flow's cells.
+    /// One peel. It trusts the marks, right or wrong, and changes none but those of the flow's cells. Where a cell is
+    /// marked, it asks for room in the list.
     pub fn peel<P: Placement>(&mut self, placement: &P, aid: &mut Aid) -> Result<Step, Damage> {
         let Some(cell) = self.marks.lowest() else {
             return Ok(Step::NothingToDo);
         };
+        self.table.assert_room();
         let damage = |refusal| Err(Damage { refusal, cell });
-        if self.table.list.len() >= 2 * self.table.cells.len() {
-            return damage(Refusal::ListFull);
-        }
         let key = self.table.cells[cell].flow_xor;
         let places = placement.places(&key);
         if aid.lists(&self.table, &key) {

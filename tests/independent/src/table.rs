@@ -71,6 +71,12 @@ impl Table {
         places.iter().all(|cell| self.cells[cell].is_open())
     }
 
+    /// Before a peel. The test of 8 gives it: at most N flows are handed, and the cell that the peel starts from is open,
+    /// so fewer than N are peeled.
+    pub fn assert_room(&self) {
+        assert!(self.list.len() < 2 * self.cells.len(), "a peel asks for room in the list");
+    }
+
     /// The part of the test of 8 that asks neither places nor equal keys.
     pub fn check(&self) -> Result<(), Refusal> {
         let n = self.cells.len();

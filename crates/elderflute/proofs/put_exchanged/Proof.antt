@@ -13,12 +13,6 @@ enum-known-x-2 c = search needs
 enum-known-x-3 : tie.Need-enum-known-x-3
 enum-known-x-3 c = search needs
 
-enum-known-x-4 : tie.Need-enum-known-x-4
-enum-known-x-4 c = search needs
-
-enum-known-x-5 : tie.Need-enum-known-x-5
-enum-known-x-5 c = search needs
-
 enum-told : tie.Need-enum-told
 enum-told c = search needs
 
@@ -41,21 +35,13 @@ returns-3 c =
     let a = (c .before .before .before .before) .args in ap (λ x. exchangeLeaves x (a .listed .now) (a .beside .now) (a .told .now)) (sym (c .before .before .x3 .given .1))
 
 returns-4 : tie.Need-returns-4
-returns-4 c =
-    let a = (c .before .before .before .before) .args in ap (λ x. exchangeLeaves x (a .listed .now) (a .beside .now) (a .told .now)) (sym (c .before .before .x4 .given .1))
+returns-4 c = let a = (c .before .before) .args in ap (λ x. exchangeLeaves x (a .listed .now) (a .beside .now) (a .told .now)) (sym (c .enum-told .given .1))
 
 returns-5 : tie.Need-returns-5
-returns-5 c =
-    let a = (c .before .before .before .before) .args in ap (λ x. exchangeLeaves x (a .listed .now) (a .beside .now) (a .told .now)) (sym (c .before .before .x5 .given .1))
+returns-5 c = let a = (c .before .before) .args in ap (λ x. exchangeLeaves x (a .listed .now) (a .beside .now) (a .told .now)) (sym (c .enum-told2 .given .1))
 
 returns-6 : tie.Need-returns-6
-returns-6 c = let a = (c .before .before) .args in ap (λ x. exchangeLeaves x (a .listed .now) (a .beside .now) (a .told .now)) (sym (c .enum-told .given .1))
-
-returns-7 : tie.Need-returns-7
-returns-7 c = let a = (c .before .before) .args in ap (λ x. exchangeLeaves x (a .listed .now) (a .beside .now) (a .told .now)) (sym (c .enum-told2 .given .1))
-
-returns-8 : tie.Need-returns-8
-returns-8 c = let a = (c .before .before) .args in ap (λ x. exchangeLeaves x (a .listed .now) (a .beside .now) (a .told .now)) (sym (c .enum-told3 .given .1))
+returns-6 c = let a = (c .before .before) .args in ap (λ x. exchangeLeaves x (a .listed .now) (a .beside .now) (a .told .now)) (sym (c .enum-told3 .given .1))
 
 pub put-exchanged-spec : {M : Type 1} → statement M
 put-exchanged-spec =
@@ -64,8 +50,6 @@ put-exchanged-spec =
     enum-known-x
     enum-known-x-2
     enum-known-x-3
-    enum-known-x-4
-    enum-known-x-5
     enum-told
     enum-told-2
     enum-told-3
@@ -74,6 +58,4 @@ put-exchanged-spec =
     returns-3
     returns-4
     returns-5
-    returns-6
-    returns-7
-    returns-8)
+    returns-6)

@@ -11,9 +11,6 @@ enum-known-a c = search needs
 enum-known-a-2 : tie.Need-enum-known-a-2
 enum-known-a-2 c = search needs
 
-enum-known-a-3 : tie.Need-enum-known-a-3
-enum-known-a-3 c = search needs
-
 enum-told : tie.Need-enum-told
 enum-told c = search needs
 
@@ -27,13 +24,10 @@ returns-2 : tie.Need-returns-2
 returns-2 c = let a = c .before .before .before .args in ap (λ x. settleLeaves x (a .listed .now) (a .cell .now)) (sym (c .before .a2 .given .1))
 
 returns-3 : tie.Need-returns-3
-returns-3 c = let a = c .before .before .before .args in ap (λ x. settleLeaves x (a .listed .now) (a .cell .now)) (sym (c .before .a3 .given .1))
+returns-3 c = let a = c .before .before .args in ap (λ x. settleLeaves x (a .listed .now) (a .cell .now)) (sym (c .enum-told .given .1))
 
 returns-4 : tie.Need-returns-4
-returns-4 c = let a = c .before .before .args in ap (λ x. settleLeaves x (a .listed .now) (a .cell .now)) (sym (c .enum-told .given .1))
-
-returns-5 : tie.Need-returns-5
-returns-5 c = let a = c .before .before .args in ap (λ x. settleLeaves x (a .listed .now) (a .cell .now)) (sym (c .enum-told2 .given .1))
+returns-4 c = let a = c .before .before .args in ap (λ x. settleLeaves x (a .listed .now) (a .cell .now)) (sym (c .enum-told2 .given .1))
 
 pub put-settled-spec : {M : Type 1} → statement M
 put-settled-spec =
@@ -41,11 +35,9 @@ put-settled-spec =
     (tie.spec
     enum-known-a
     enum-known-a-2
-    enum-known-a-3
     enum-told
     enum-told-2
     returns
     returns-2
     returns-3
-    returns-4
-    returns-5)
+    returns-4)

@@ -11,9 +11,6 @@ enum-known-s c = search needs
 enum-known-s-2 : tie.Need-enum-known-s-2
 enum-known-s-2 c = search needs
 
-enum-known-s-3 : tie.Need-enum-known-s-3
-enum-known-s-3 c = search needs
-
 returns : tie.Need-returns
 returns c =
     ap (λ x. roundOf (listedAt x) ((c .before .before .before) .args .b) ((c .before .before .before) .args .twelves) (endingA x)) (sym (c .before .s .given .1))
@@ -22,10 +19,6 @@ returns-2 : tie.Need-returns-2
 returns-2 c =
     ap (λ x. roundOf (listedAt x) ((c .before .before .before) .args .b) ((c .before .before .before) .args .twelves) (endingA x)) (sym (c .before .s2 .given .1))
 
-returns-3 : tie.Need-returns-3
-returns-3 c =
-    ap (λ x. roundOf (listedAt x) ((c .before .before .before) .args .b) ((c .before .before .before) .args .twelves) (endingA x)) (sym (c .before .s3 .given .1))
-
 pub after-a-spec : {M : Type 1} → statement M
 after-a-spec =
-    tie.close (tie.spec enum-known-s enum-known-s-2 enum-known-s-3 returns returns-2 returns-3)
+    tie.close (tie.spec enum-known-s enum-known-s-2 returns returns-2)

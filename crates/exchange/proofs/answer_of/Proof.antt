@@ -13,12 +13,6 @@ enum-known-ending c = search needs
 enum-known-ending-2 : tie.Need-enum-known-ending-2
 enum-known-ending-2 c = search needs
 
-enum-known-ending-3 : tie.Need-enum-known-ending-3
-enum-known-ending-3 c = search needs
-
-enum-known-ending-4 : tie.Need-enum-known-ending-4
-enum-known-ending-4 c = search needs
-
 returns : tie.Need-returns
 returns c = let r = (c .before .before) .args .r in ap (λ x. answerOf x (r .a) (r .b) (r .twelves)) (sym (c .enum-told .given .1))
 
@@ -28,12 +22,6 @@ returns-2 c = let r = (c .before .before .before) .args .r in ap (λ x. answerOf
 returns-3 : tie.Need-returns-3
 returns-3 c = let r = (c .before .before .before) .args .r in ap (λ x. answerOf x (r .a) (r .b) (r .twelves)) (sym (c .before .ending2 .given .1))
 
-returns-4 : tie.Need-returns-4
-returns-4 c = let r = (c .before .before .before) .args .r in ap (λ x. answerOf x (r .a) (r .b) (r .twelves)) (sym (c .before .ending3 .given .1))
-
-returns-5 : tie.Need-returns-5
-returns-5 c = let r = (c .before .before .before) .args .r in ap (λ x. answerOf x (r .a) (r .b) (r .twelves)) (sym (c .before .ending4 .given .1))
-
 pub answer-of-spec : {M : Type 1} → statement M
 answer-of-spec =
     tie.close
@@ -41,10 +29,7 @@ answer-of-spec =
     enum-told
     enum-known-ending
     enum-known-ending-2
-    enum-known-ending-3
-    enum-known-ending-4
     returns
     returns-2
     returns-3
-    returns-4
-    returns-5)
+    )

@@ -167,7 +167,7 @@ exchange-sides-requires c κs =
     let all = passed (a .l) (a .s) (a .t) m yes in
     let pi = c .before .before .before .before .before .before .before .before .before .before .before .place-after .ensures ∙ ap (placeAfter (a .l) (a .s .sizes)) (c .before .before .before .before .before .before .before .before .before .before .before .before .origin .ensures) in
     let ei = c .before .before .before .before .before .before .before .before .before .before .place-after2 .ensures ∙ ap (placeAfter (a .l) (a .t .sizes)) pi in
-    (call-both (a .l) (a .s) (a .t) m (s .pre) all pi ei (c .before .before .before .before .before .before .before .before .before .before .before .before .before .before .before .before .test .ensures .1 (c .before .before .before .before .before .before .before .before .before .before .before .before .before .enum-told4 .given .1)), filter-full (a .l) (a .s) (a .t) m (s .pre) all pi ei (c .before .before .before .before .before .before .before .before .before .before .before .before .before .before .before .before .test .ensures .1 (c .before .before .before .before .before .before .before .before .before .before .before .before .before .enum-told4 .given .1)))
+    (call-both (a .l) (a .s) (a .t) m (s .pre) all pi ei (c .before .before .before .before .before .before .before .before .before .before .before .before .before .before .before .before .test .ensures .1 (c .before .before .before .before .before .before .before .before .before .before .before .before .before .enum-told4 .given .1)) (λ i. c .before .before .before .before .before .before .before .before .before .before .before .before .before .before .before .before .before .before .before .before .before .before .before .before .before .before .before .before .before .before .slice-known6 .given i .fits), filter-full (a .l) (a .s) (a .t) m (s .pre) all pi ei (c .before .before .before .before .before .before .before .before .before .before .before .before .before .before .before .before .test .ensures .1 (c .before .before .before .before .before .before .before .before .before .before .before .before .before .enum-told4 .given .1)))
 
 answer-of-requires : tie.Need-answer-of-requires
 answer-of-requires c κs = tt

@@ -35,7 +35,7 @@ cells-of-requires c κs = search needs
 answer-requires : tie.Need-answer-requires
 answer-requires c κs =
     let s = (c .before .before .before .before .before .before .before .before .before .before .before .before .before .before .before) in
-    let f = s .pre .fits in (
+    let f = s .pre .steady .fits in (
       f .table .lays,
       f .table .ranged,
       c .before .before .before .cells-of .ensures,
@@ -69,7 +69,7 @@ returns c =
 append-requires : tie.Need-append-requires
 append-requires c κs =
     let s = (c .before .before .before .before .before .before .before .before .before .before .before .before .before .before .before .before .before .before .before .before .before) in
-    let r = s .pre .fits .room in
+    let r = s .pre .steady .fits .room in
     let h = room s (c .before .before .before .before .before .answer .ensures) (c .before .before .before .enum-told .given .1) in
     (s .pre .key-fits, key-inside (s .args .n) r h, omega (arith, r .counts-fit), omega (arith, r .flags-fit))
 
@@ -77,27 +77,27 @@ bucket-requires : tie.Need-bucket-requires
 bucket-requires c κs =
     let s = (c .before .before .before .before .before .before .before .before .before .before .before .before .before .before .before .before .before .before .before .before .before .before .before .before .before .before .before .before .before) in
     let a = s .args in
-    first-two (a .l) (a .z) (a .salt) (a .n) (T s) (R s) (a .seen .now) (s .pre .fits) (a .key .now)
+    first-two (a .l) (a .z) (a .salt) (a .n) (T s) (R s) (a .seen .now) (s .pre .steady .fits) (a .key .now)
     (c .before .before .before .before .before .before .before .before .before .before .before .before .before .before .before .before .before .cells-of .ensures)
 
 link-requires : tie.Need-link-requires
 link-requires c κs =
     let s = (c .before .before .before .before .before .before .before .before .before .before .before .before .before .before .before .before .before .before .before .before .before .before .before .before .before .before .before .before .before .before) in
     let a = s .args in (
-      s .pre .fits .covers .sized,
+      s .pre .steady .fits .covers .sized,
       omega (arith, c .bucket .ensures),
-      omega (arith, room s (c .before .before .before .before .before .before .before .before .before .before .before .before .before .before .answer .ensures) (c .before .before .before .before .before .before .before .before .before .before .before .before .enum-told .given .1), table-high (a .l) (a .z) (s .pre .fits .table .lays) (s .pre .fits .table .ranged)),
+      omega (arith, room s (c .before .before .before .before .before .before .before .before .before .before .before .before .before .before .answer .ensures) (c .before .before .before .before .before .before .before .before .before .before .before .before .enum-told .given .1), table-high (a .l) (a .z) (s .pre .steady .fits .table .lays) (s .pre .steady .fits .table .ranged)),
     )
 
 cast-take-out : tie.Need-cast-take-out
 cast-take-out c =
     let s = (c .before .before .before .before .before .before .before .before .before .before .before .before .before .before .before .before .before .before .before .before .before .before .before .before .before .before .before .before .before .before .before .before .before) in
-    omega (arith, s .pre .fits .listed, table-high (s .args .l) (s .args .z) (s .pre .fits .table .lays) (s .pre .fits .table .ranged))
+    omega (arith, s .pre .steady .fits .listed, table-high (s .args .l) (s .args .z) (s .pre .steady .fits .table .lays) (s .pre .steady .fits .table .ranged))
 
 take-out-requires : tie.Need-take-out-requires
 take-out-requires c κs =
     let s = (c .before .before .before .before .before .before .before .before .before .before .before .before .before .before .before .before .before .before .before .before .before .before .before .before .before .before .before .before .before .before .before .before .before .before .before .before .before .before) in (
-      s .pre .fits .table,
+      s .pre .steady .fits .table,
       c .before .before .before .before .before .before .before .before .before .before .before .before .before .before .before .before .before .before .before .before .before .before .before .before .before .before .cells-of .ensures,
       s .pre .key-fits,
     )

@@ -1,15 +1,12 @@
 use mathlib.Core.Path.{_∙_}
-use native.Mathlib.Omega.{arith}
 use Rattle.list.specs.Records.{records}
 use Rattle.table.specs.Table.{tab}
-use Rattle.layout.proofs.Ranges.{table-high}
-use Rattle.parts.proofs.Giving.{give-some, give-none, handed-part, listed-in}
+use Rattle.parts.proofs.Giving.{handed-part, listed-in}
 use borrow.Author.Needs.{needs}
 use Rattle.parts.proofs.give.Statement.{statement}
 use Rattle.parts.proofs.give.Tie as tie
 use Rattle.parts.proofs.give.Reads as reads
 use Rattle.parts.proofs.give.Lts as lts
-use Rattle.layout.proofs.table_cells.Reads as table-cells-reads
 use Rattle.parts.proofs.give_each.Reads as give-each-reads
 use Rattle.parts.proofs.handed_in.Reads as handed-in-reads
 
@@ -23,49 +20,17 @@ handed-in-requires c κs =
           (tab (a .xors .now) (a .flows .now) (a .unknowns .now) (a .positions .now) (a .marks .now)) (records (a .keys .now) (a .counts .now) (a .flags .now)) (a .seen .now) (s .pre),
     )
 
-table-cells-requires : tie.Need-table-cells-requires
-table-cells-requires c κs = search needs
-
-add-if1 : tie.Need-add-if1
-add-if1 c =
-    let s = (c .before .before .before .before .before .before .before .before .before .before .before .before .before) in
-    let a = s .args in
-    omega (arith, c .before .handed-in .ensures .1, s .pre .fits .listed, table-high (a .l) (a .z) (s .pre .fits .table .lays) (s .pre .fits .table .ranged), c .table-cells .ensures)
+give-each-requires : tie.Need-give-each-requires
+give-each-requires c κs =
+    let s = (c .before .before .before .before .before .before .before .before .before .before .before .before .before .before .before .before .before .before .before .before .before) in
+    let a = s .args in (
+      s .pre,
+      c .before .before .before .before .before .before .before .before .before .handed-in .ensures .0 ∙ handed-part (a .l) (a .z) (a .salt) (a .a) (a .e) (a .n) (a .from) (a .m) (a .filter .now)
+          (tab (a .xors .now) (a .flows .now) (a .unknowns .now) (a .positions .now) (a .marks .now)) (records (a .keys .now) (a .counts .now) (a .flags .now)) (a .seen .now),
+    )
 
 same-length : tie.Need-same-length
 same-length c = search needs
-
-returns : tie.Need-returns
-returns c =
-    let s = (c .before .before .before .before .before .before .before .before .before .before .before .before .before .before) in
-    let a = s .args in
-    give-none (a .l) (a .z) (a .salt) (a .a) (a .e) (a .n) (a .from) (a .m) (a .filter .now)
-    (tab (a .xors .now) (a .flows .now) (a .unknowns .now) (a .positions .now) (a .marks .now)) (records (a .keys .now) (a .counts .now) (a .flags .now)) (a .seen .now)
-    (omega (
-      arith,
-      c .before .before .handed-in .ensures .0,
-      handed-part (a .l) (a .z) (a .salt) (a .a) (a .e) (a .n) (a .from) (a .m) (a .filter .now)
-          (tab (a .xors .now) (a .flows .now) (a .unknowns .now) (a .positions .now) (a .marks .now)) (records (a .keys .now) (a .counts .now) (a .flags .now)) (a .seen .now),
-      c .before .table-cells .ensures,
-      c .if1 .taken,
-    ))
-
-give-each-requires : tie.Need-give-each-requires
-give-each-requires c κs =
-    let s = (c .before .before .before .before .before .before .before .before .before .before .before .before .before .before .before .before .before .before .before .before .before .before .before) in
-    let a = s .args in (
-      s .pre,
-      c .before .before .before .before .before .before .before .before .before .before .before .handed-in .ensures .0 ∙ handed-part (a .l) (a .z) (a .salt) (a .a) (a .e) (a .n) (a .from) (a .m) (a .filter .now)
-          (tab (a .xors .now) (a .flows .now) (a .unknowns .now) (a .positions .now) (a .marks .now)) (records (a .keys .now) (a .counts .now) (a .flags .now)) (a .seen .now),
-      omega (
-        arith,
-        c .before .before .before .before .before .before .before .before .before .before .before .handed-in .ensures .0,
-        handed-part (a .l) (a .z) (a .salt) (a .a) (a .e) (a .n) (a .from) (a .m) (a .filter .now)
-            (tab (a .xors .now) (a .flows .now) (a .unknowns .now) (a .positions .now) (a .marks .now)) (records (a .keys .now) (a .counts .now) (a .flags .now)) (a .seen .now),
-        c .before .before .before .before .before .before .before .before .before .before .table-cells .ensures,
-        c .before .before .before .before .before .before .before .before .before .if1 .left,
-      ),
-    )
 
 same-length-2 : tie.Need-same-length-2
 same-length-2 c = search needs
@@ -91,34 +56,16 @@ same-length-8 c = search needs
 same-length-9 : tie.Need-same-length-9
 same-length-9 c = search needs
 
-same-length-10 : tie.Need-same-length-10
-same-length-10 c = search needs
-
-returns-2 : tie.Need-returns-2
-returns-2 c =
-    let s = (c .before .before .before .before .before .before .before .before .before .before .before .before .before .before .before .before .before .before .before .before .before .before .before .before .before .before .before .before .before .before .before .before .before .before .before .before .before .before .before .before .before .before) in
-    let a = s .args in
-    c .before .before .before .before .before .before .before .before .before .before .before .before .before .before .before .before .before .before .give-each .ensures ∙ give-some (a .l) (a .z) (a .salt) (a .a) (a .e) (a .n) (a .from) (a .m) (a .filter .now)
-    (tab (a .xors .now) (a .flows .now) (a .unknowns .now) (a .positions .now) (a .marks .now)) (records (a .keys .now) (a .counts .now) (a .flags .now)) (a .seen .now)
-    (omega (
-      arith,
-      c .before .before .before .before .before .before .before .before .before .before .before .before .before .before .before .before .before .before .before .before .before .before .before .before .before .before .before .before .before .before .handed-in .ensures .0,
-      handed-part (a .l) (a .z) (a .salt) (a .a) (a .e) (a .n) (a .from) (a .m) (a .filter .now)
-          (tab (a .xors .now) (a .flows .now) (a .unknowns .now) (a .positions .now) (a .marks .now)) (records (a .keys .now) (a .counts .now) (a .flags .now)) (a .seen .now),
-      c .before .before .before .before .before .before .before .before .before .before .before .before .before .before .before .before .before .before .before .before .before .before .before .before .before .before .before .before .before .table-cells .ensures,
-      c .before .before .before .before .before .before .before .before .before .before .before .before .before .before .before .before .before .before .before .before .before .before .before .before .before .before .before .before .if1 .left,
-    ))
+returns : tie.Need-returns
+returns c = c .before .before .before .before .before .before .before .before .before .before .before .before .before .before .before .before .before .before .give-each .ensures
 
 pub give-spec : {M : Type 1} → statement M
 give-spec =
     tie.close
     (tie.spec
     handed-in-requires
-    table-cells-requires
-    add-if1
-    same-length
-    returns
     give-each-requires
+    same-length
     same-length-2
     same-length-3
     same-length-4
@@ -127,5 +74,4 @@ give-spec =
     same-length-7
     same-length-8
     same-length-9
-    same-length-10
-    returns-2)
+    returns)

@@ -33,18 +33,17 @@ hand-next-requires c κs =
     let s = (c .before .before .before .before .before .before .before .before .before .before .before .before .before .before .before .before .before .before .before .before .before) in
     let a = s .args in
     let g = c .before .before .before .before .before .before .before .before .before .before .loop .inv in
-    let p = s .pre .0 in
-    let all = s .pre .2 in (
+    let p = s .pre .0 in (
       giving-inside (a .l) (a .z) (a .salt) (a .a) (a .e) (a .n) (a .from) (a .m) (a .filter .now)
-          (tab (a .xors .now) (a .flows .now) (a .unknowns .now) (a .positions .now) (a .marks .now)) (records (a .keys .now) (a .counts .now) (a .flags .now)) (a .seen .now) p all g,
+          (tab (a .xors .now) (a .flows .now) (a .unknowns .now) (a .positions .now) (a .marks .now)) (records (a .keys .now) (a .counts .now) (a .flags .now)) (a .seen .now) p g,
       p .filter-up,
       p .filter-in,
       giving-in (a .l) (a .z) (a .salt) (a .a) (a .e) (a .n) (a .from) (a .m) (a .filter .now)
-          (tab (a .xors .now) (a .flows .now) (a .unknowns .now) (a .positions .now) (a .marks .now)) (records (a .keys .now) (a .counts .now) (a .flags .now)) (a .seen .now) p all g (omega (arith, c .before .before .before .before .before .before .before .before .before .loop-test .taken)),
+          (tab (a .xors .now) (a .flows .now) (a .unknowns .now) (a .positions .now) (a .marks .now)) (records (a .keys .now) (a .counts .now) (a .flags .now)) (a .seen .now) p g (omega (arith, c .before .before .before .before .before .before .before .before .before .loop-test .taken)),
       giving-few (a .l) (a .z) (a .salt) (a .a) (a .e) (a .n) (a .from) (a .m) (a .filter .now)
-          (tab (a .xors .now) (a .flows .now) (a .unknowns .now) (a .positions .now) (a .marks .now)) (records (a .keys .now) (a .counts .now) (a .flags .now)) (a .seen .now) p all g (omega (arith, c .before .before .before .before .before .before .before .before .before .loop-test .taken)),
+          (tab (a .xors .now) (a .flows .now) (a .unknowns .now) (a .positions .now) (a .marks .now)) (records (a .keys .now) (a .counts .now) (a .flags .now)) (a .seen .now) p g (omega (arith, c .before .before .before .before .before .before .before .before .before .loop-test .taken)),
       giving-hands (a .l) (a .z) (a .salt) (a .a) (a .e) (a .n) (a .from) (a .m) (a .filter .now)
-          (tab (a .xors .now) (a .flows .now) (a .unknowns .now) (a .positions .now) (a .marks .now)) (records (a .keys .now) (a .counts .now) (a .flags .now)) (a .seen .now) p all g (omega (arith, c .before .before .before .before .before .before .before .before .before .loop-test .taken)),
+          (tab (a .xors .now) (a .flows .now) (a .unknowns .now) (a .positions .now) (a .marks .now)) (records (a .keys .now) (a .counts .now) (a .flags .now)) (a .seen .now) p g (omega (arith, c .before .before .before .before .before .before .before .before .before .loop-test .taken)),
     )
 
 taken-by-requires : tie.Need-taken-by-requires Inv-loop μ-loop
@@ -57,8 +56,8 @@ add-listed c =
     omega (
       arith,
       giving-listed (a .l) (a .z) (a .salt) (a .a) (a .e) (a .n) (a .from) (a .m) (a .filter .now)
-          (tab (a .xors .now) (a .flows .now) (a .unknowns .now) (a .positions .now) (a .marks .now)) (records (a .keys .now) (a .counts .now) (a .flags .now)) (a .seen .now) (s .pre .0) (s .pre .2) (c .before .before .before .before .before .before .before .before .before .before .before .before .before .before .before .before .before .before .before .before .before .before .before .before .before .before .before .before .before .before .loop .inv),
-      table-high (a .l) (a .z) (s .pre .0 .fits .table .lays) (s .pre .0 .fits .table .ranged),
+          (tab (a .xors .now) (a .flows .now) (a .unknowns .now) (a .positions .now) (a .marks .now)) (records (a .keys .now) (a .counts .now) (a .flags .now)) (a .seen .now) (s .pre .0) (c .before .before .before .before .before .before .before .before .before .before .before .before .before .before .before .before .before .before .before .before .before .before .before .before .before .before .before .before .before .before .loop .inv),
+      table-high (a .l) (a .z) (s .pre .0 .steady .fits .table .lays) (s .pre .0 .steady .fits .table .ranged),
       c .taken-by .ensures .1,
     )
 
@@ -72,8 +71,8 @@ add-over c =
     omega (
       arith,
       giving-handed (a .l) (a .z) (a .salt) (a .a) (a .e) (a .n) (a .from) (a .m) (a .filter .now)
-          (tab (a .xors .now) (a .flows .now) (a .unknowns .now) (a .positions .now) (a .marks .now)) (records (a .keys .now) (a .counts .now) (a .flags .now)) (a .seen .now) (s .pre .0) (s .pre .2) (c .before .before .before .before .before .before .before .before .before .before .before .before .before .before .before .before .before .before .before .before .before .before .before .before .before .before .before .before .before .before .before .loop .inv),
-      table-high (a .l) (a .z) (s .pre .0 .fits .table .lays) (s .pre .0 .fits .table .ranged),
+          (tab (a .xors .now) (a .flows .now) (a .unknowns .now) (a .positions .now) (a .marks .now)) (records (a .keys .now) (a .counts .now) (a .flags .now)) (a .seen .now) (s .pre .0) (c .before .before .before .before .before .before .before .before .before .before .before .before .before .before .before .before .before .before .before .before .before .before .before .before .before .before .before .before .before .before .before .loop .inv),
+      table-high (a .l) (a .z) (s .pre .0 .steady .fits .table .lays) (s .pre .0 .steady .fits .table .ranged),
       c .taken-by2 .ensures .1,
     )
 
@@ -87,7 +86,7 @@ add-twelves c =
     omega (
       arith,
       giving-twelves (a .l) (a .z) (a .salt) (a .a) (a .e) (a .n) (a .from) (a .m) (a .filter .now)
-          (tab (a .xors .now) (a .flows .now) (a .unknowns .now) (a .positions .now) (a .marks .now)) (records (a .keys .now) (a .counts .now) (a .flags .now)) (a .seen .now) (s .pre .0) (s .pre .2) (c .before .before .before .before .before .before .before .before .before .before .before .before .before .before .before .before .before .before .before .before .before .before .before .before .before .before .before .before .before .before .before .before .loop .inv),
+          (tab (a .xors .now) (a .flows .now) (a .unknowns .now) (a .positions .now) (a .marks .now)) (records (a .keys .now) (a .counts .now) (a .flags .now)) (a .seen .now) (s .pre .0) (c .before .before .before .before .before .before .before .before .before .before .before .before .before .before .before .before .before .before .before .before .before .before .before .before .before .before .before .before .before .before .before .before .loop .inv),
       c .before .before .before .before .before .before .before .before .before .before .before .before .before .before .before .before .before .before .before .before .before .before .before .before .before .before .before .before .before .before .before .before .loop .inv .few,
       s .pre .0 .few,
       c .twelve-by .ensures .1,
@@ -100,7 +99,7 @@ add-at c =
     omega (
       arith,
       giving-few (a .l) (a .z) (a .salt) (a .a) (a .e) (a .n) (a .from) (a .m) (a .filter .now)
-          (tab (a .xors .now) (a .flows .now) (a .unknowns .now) (a .positions .now) (a .marks .now)) (records (a .keys .now) (a .counts .now) (a .flags .now)) (a .seen .now) (s .pre .0) (s .pre .2) (c .before .before .before .before .before .before .before .before .before .before .before .before .before .before .before .before .before .before .before .before .before .before .before .before .before .before .before .before .before .before .before .before .loop .inv) (omega (arith, c .before .before .before .before .before .before .before .before .before .before .before .before .before .before .before .before .before .before .before .before .before .before .before .before .before .before .before .before .before .before .before .loop-test .taken)),
+          (tab (a .xors .now) (a .flows .now) (a .unknowns .now) (a .positions .now) (a .marks .now)) (records (a .keys .now) (a .counts .now) (a .flags .now)) (a .seen .now) (s .pre .0) (c .before .before .before .before .before .before .before .before .before .before .before .before .before .before .before .before .before .before .before .before .before .before .before .before .before .before .before .before .before .before .before .before .loop .inv) (omega (arith, c .before .before .before .before .before .before .before .before .before .before .before .before .before .before .before .before .before .before .before .before .before .before .before .before .before .before .before .before .before .before .before .loop-test .taken)),
     )
 
 add-i : tie.Need-add-i Inv-loop μ-loop
@@ -116,7 +115,7 @@ loop-again c =
     let s = (c .before .before .before .before .before .before .before .before .before .before .before .before .before .before .before .before .before .before .before .before .before .before .before .before .before .before .before .before .before .before .before .before .before .before .before .before .before .before .before .before .before .before .before) in
     let a = s .args in
     giving-on (a .l) (a .z) (a .salt) (a .a) (a .e) (a .n) (a .from) (a .m) (a .filter .now)
-    (tab (a .xors .now) (a .flows .now) (a .unknowns .now) (a .positions .now) (a .marks .now)) (records (a .keys .now) (a .counts .now) (a .flags .now)) (a .seen .now) (s .pre .0) (s .pre .2) (c .before .before .before .before .before .before .before .before .before .before .before .before .before .before .before .before .before .before .before .before .before .before .before .before .before .before .before .before .before .before .before .before .loop .inv) (omega (arith, c .before .before .before .before .before .before .before .before .before .before .before .before .before .before .before .before .before .before .before .before .before .before .before .before .before .before .before .before .before .before .before .loop-test .taken))
+    (tab (a .xors .now) (a .flows .now) (a .unknowns .now) (a .positions .now) (a .marks .now)) (records (a .keys .now) (a .counts .now) (a .flags .now)) (a .seen .now) (s .pre .0) (c .before .before .before .before .before .before .before .before .before .before .before .before .before .before .before .before .before .before .before .before .before .before .before .before .before .before .before .before .before .before .before .before .loop .inv) (omega (arith, c .before .before .before .before .before .before .before .before .before .before .before .before .before .before .before .before .before .before .before .before .before .before .before .before .before .before .before .before .before .before .before .loop-test .taken))
     (c .before .before .before .before .before .before .before .before .before .before .before .before .before .before .before .before .before .before .before .before .before .hand-next .ensures) (c .before .before .taken-by .ensures .0) (c .before .taken-by2 .ensures .0) (c .twelve-by .ensures .0)
 
 same-length : tie.Need-same-length Inv-loop μ-loop
@@ -124,70 +123,70 @@ same-length c =
     let s = (c .before .before .before .before .before .before .before .before .before .before .before .before) in
     let a = s .args in
     giving-alike (a .l) (a .z) (a .salt) (a .a) (a .e) (a .n) (a .from) (a .m) (a .filter .now)
-    (tab (a .xors .now) (a .flows .now) (a .unknowns .now) (a .positions .now) (a .marks .now)) (records (a .keys .now) (a .counts .now) (a .flags .now)) (a .seen .now) (s .pre .0) (s .pre .2) (c .before .loop .inv) .xors-alike
+    (tab (a .xors .now) (a .flows .now) (a .unknowns .now) (a .positions .now) (a .marks .now)) (records (a .keys .now) (a .counts .now) (a .flags .now)) (a .seen .now) (s .pre .0) (c .before .loop .inv) .xors-alike
 
 same-length-2 : tie.Need-same-length-2 Inv-loop μ-loop
 same-length-2 c =
     let s = (c .before .before .before .before .before .before .before .before .before .before .before .before) in
     let a = s .args in
     giving-alike (a .l) (a .z) (a .salt) (a .a) (a .e) (a .n) (a .from) (a .m) (a .filter .now)
-    (tab (a .xors .now) (a .flows .now) (a .unknowns .now) (a .positions .now) (a .marks .now)) (records (a .keys .now) (a .counts .now) (a .flags .now)) (a .seen .now) (s .pre .0) (s .pre .2) (c .before .loop .inv) .flows-alike
+    (tab (a .xors .now) (a .flows .now) (a .unknowns .now) (a .positions .now) (a .marks .now)) (records (a .keys .now) (a .counts .now) (a .flags .now)) (a .seen .now) (s .pre .0) (c .before .loop .inv) .flows-alike
 
 same-length-3 : tie.Need-same-length-3 Inv-loop μ-loop
 same-length-3 c =
     let s = (c .before .before .before .before .before .before .before .before .before .before .before .before) in
     let a = s .args in
     giving-alike (a .l) (a .z) (a .salt) (a .a) (a .e) (a .n) (a .from) (a .m) (a .filter .now)
-    (tab (a .xors .now) (a .flows .now) (a .unknowns .now) (a .positions .now) (a .marks .now)) (records (a .keys .now) (a .counts .now) (a .flags .now)) (a .seen .now) (s .pre .0) (s .pre .2) (c .before .loop .inv) .unknowns-alike
+    (tab (a .xors .now) (a .flows .now) (a .unknowns .now) (a .positions .now) (a .marks .now)) (records (a .keys .now) (a .counts .now) (a .flags .now)) (a .seen .now) (s .pre .0) (c .before .loop .inv) .unknowns-alike
 
 same-length-4 : tie.Need-same-length-4 Inv-loop μ-loop
 same-length-4 c =
     let s = (c .before .before .before .before .before .before .before .before .before .before .before .before) in
     let a = s .args in
     giving-alike (a .l) (a .z) (a .salt) (a .a) (a .e) (a .n) (a .from) (a .m) (a .filter .now)
-    (tab (a .xors .now) (a .flows .now) (a .unknowns .now) (a .positions .now) (a .marks .now)) (records (a .keys .now) (a .counts .now) (a .flags .now)) (a .seen .now) (s .pre .0) (s .pre .2) (c .before .loop .inv) .positions-alike
+    (tab (a .xors .now) (a .flows .now) (a .unknowns .now) (a .positions .now) (a .marks .now)) (records (a .keys .now) (a .counts .now) (a .flags .now)) (a .seen .now) (s .pre .0) (c .before .loop .inv) .positions-alike
 
 same-length-5 : tie.Need-same-length-5 Inv-loop μ-loop
 same-length-5 c =
     let s = (c .before .before .before .before .before .before .before .before .before .before .before .before) in
     let a = s .args in
     giving-alike (a .l) (a .z) (a .salt) (a .a) (a .e) (a .n) (a .from) (a .m) (a .filter .now)
-    (tab (a .xors .now) (a .flows .now) (a .unknowns .now) (a .positions .now) (a .marks .now)) (records (a .keys .now) (a .counts .now) (a .flags .now)) (a .seen .now) (s .pre .0) (s .pre .2) (c .before .loop .inv) .marks-alike
+    (tab (a .xors .now) (a .flows .now) (a .unknowns .now) (a .positions .now) (a .marks .now)) (records (a .keys .now) (a .counts .now) (a .flags .now)) (a .seen .now) (s .pre .0) (c .before .loop .inv) .marks-alike
 
 same-length-6 : tie.Need-same-length-6 Inv-loop μ-loop
 same-length-6 c =
     let s = (c .before .before .before .before .before .before .before .before .before .before .before .before) in
     let a = s .args in
     giving-alike (a .l) (a .z) (a .salt) (a .a) (a .e) (a .n) (a .from) (a .m) (a .filter .now)
-    (tab (a .xors .now) (a .flows .now) (a .unknowns .now) (a .positions .now) (a .marks .now)) (records (a .keys .now) (a .counts .now) (a .flags .now)) (a .seen .now) (s .pre .0) (s .pre .2) (c .before .loop .inv) .keys-alike
+    (tab (a .xors .now) (a .flows .now) (a .unknowns .now) (a .positions .now) (a .marks .now)) (records (a .keys .now) (a .counts .now) (a .flags .now)) (a .seen .now) (s .pre .0) (c .before .loop .inv) .keys-alike
 
 same-length-7 : tie.Need-same-length-7 Inv-loop μ-loop
 same-length-7 c =
     let s = (c .before .before .before .before .before .before .before .before .before .before .before .before) in
     let a = s .args in
     giving-alike (a .l) (a .z) (a .salt) (a .a) (a .e) (a .n) (a .from) (a .m) (a .filter .now)
-    (tab (a .xors .now) (a .flows .now) (a .unknowns .now) (a .positions .now) (a .marks .now)) (records (a .keys .now) (a .counts .now) (a .flags .now)) (a .seen .now) (s .pre .0) (s .pre .2) (c .before .loop .inv) .counts-alike
+    (tab (a .xors .now) (a .flows .now) (a .unknowns .now) (a .positions .now) (a .marks .now)) (records (a .keys .now) (a .counts .now) (a .flags .now)) (a .seen .now) (s .pre .0) (c .before .loop .inv) .counts-alike
 
 same-length-8 : tie.Need-same-length-8 Inv-loop μ-loop
 same-length-8 c =
     let s = (c .before .before .before .before .before .before .before .before .before .before .before .before) in
     let a = s .args in
     giving-alike (a .l) (a .z) (a .salt) (a .a) (a .e) (a .n) (a .from) (a .m) (a .filter .now)
-    (tab (a .xors .now) (a .flows .now) (a .unknowns .now) (a .positions .now) (a .marks .now)) (records (a .keys .now) (a .counts .now) (a .flags .now)) (a .seen .now) (s .pre .0) (s .pre .2) (c .before .loop .inv) .flags-alike
+    (tab (a .xors .now) (a .flows .now) (a .unknowns .now) (a .positions .now) (a .marks .now)) (records (a .keys .now) (a .counts .now) (a .flags .now)) (a .seen .now) (s .pre .0) (c .before .loop .inv) .flags-alike
 
 same-length-9 : tie.Need-same-length-9 Inv-loop μ-loop
 same-length-9 c =
     let s = (c .before .before .before .before .before .before .before .before .before .before .before .before) in
     let a = s .args in
     giving-alike (a .l) (a .z) (a .salt) (a .a) (a .e) (a .n) (a .from) (a .m) (a .filter .now)
-    (tab (a .xors .now) (a .flows .now) (a .unknowns .now) (a .positions .now) (a .marks .now)) (records (a .keys .now) (a .counts .now) (a .flags .now)) (a .seen .now) (s .pre .0) (s .pre .2) (c .before .loop .inv) .seen-alike
+    (tab (a .xors .now) (a .flows .now) (a .unknowns .now) (a .positions .now) (a .marks .now)) (records (a .keys .now) (a .counts .now) (a .flags .now)) (a .seen .now) (s .pre .0) (c .before .loop .inv) .seen-alike
 
 returns : tie.Need-returns Inv-loop μ-loop
 returns c =
     let s = (c .before .before .before .before .before .before .before .before .before .before .before .before) in
     let a = s .args in
     giving-done (a .l) (a .z) (a .salt) (a .a) (a .e) (a .n) (a .from) (a .m) (a .filter .now)
-    (tab (a .xors .now) (a .flows .now) (a .unknowns .now) (a .positions .now) (a .marks .now)) (records (a .keys .now) (a .counts .now) (a .flags .now)) (a .seen .now) (s .pre .0) (s .pre .2) (c .before .loop .inv) (omega (arith, c .before .loop .inv .few, c .loop-test .left))
+    (tab (a .xors .now) (a .flows .now) (a .unknowns .now) (a .positions .now) (a .marks .now)) (records (a .keys .now) (a .counts .now) (a .flags .now)) (a .seen .now) (s .pre .0) (c .before .loop .inv) (omega (arith, c .before .loop .inv .few, c .loop-test .left))
 
 pub give-each-spec : {M : Type 1} → statement M
 give-each-spec =

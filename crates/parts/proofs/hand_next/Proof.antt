@@ -22,11 +22,11 @@ add-end : tie.Need-add-end
 add-end c = search needs
 
 array-borrow-prefix-key : tie.Need-array-borrow-prefix-key
-array-borrow-prefix-key c = key-few ((c .before .before .before .before .before .before .before .before .before .before) .pre .5 .fits .table)
+array-borrow-prefix-key c = key-few ((c .before .before .before .before .before .before .before .before .before .before) .pre .5 .steady .fits .table)
 
 slice-aggregate-copy-in : tie.Need-slice-aggregate-copy-in
 slice-aggregate-copy-in c =
-    sym (length-take-le ((c .before .before .before .before .before .before .before .before .before .before .before) .args .l .key) (replicate 480 0) (key-few ((c .before .before .before .before .before .before .before .before .before .before .before) .pre .5 .fits .table)))
+    sym (length-take-le ((c .before .before .before .before .before .before .before .before .before .before .before) .args .l .key) (replicate 480 0) (key-few ((c .before .before .before .before .before .before .before .before .before .before .before) .pre .5 .steady .fits .table)))
 
 sub-copy-in : tie.Need-sub-copy-in
 sub-copy-in c = search needs
@@ -40,7 +40,7 @@ part-copy-in-end c = search needs
 copy-in-requires : tie.Need-copy-in-requires
 copy-in-requires c κs =
     let a = (c .before .before .before .before .before .before .before .before .before .before .before .before .before) .args in
-    length-take-le (a .l .key) (replicate 480 0) (key-few ((c .before .before .before .before .before .before .before .before .before .before .before .before .before) .pre .5 .fits .table))
+    length-take-le (a .l .key) (replicate 480 0) (key-few ((c .before .before .before .before .before .before .before .before .before .before .before .before .before) .pre .5 .steady .fits .table))
     ∙ sym (length-copied (a .at) (a .l .key) (a .keys .now) ((c .before .before .before .before .before .before .before .before .before .before .before .before .before) .pre .3) refl)
 
 array-share-prefix-key : tie.Need-array-share-prefix-key

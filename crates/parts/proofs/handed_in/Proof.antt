@@ -1,5 +1,4 @@
-use Rattle.list.specs.Records.{isHanded}
-use Rattle.test8.specs.Test8.{handedIn}
+use Rattle.list.specs.Records.{isHanded, handedIn}
 use borrow.Author.Needs.{needs}
 use Rattle.parts.proofs.handed_in.Statement.{statement}
 use Rattle.parts.proofs.handed_in.Tie as tie

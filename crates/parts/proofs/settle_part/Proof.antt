@@ -154,7 +154,7 @@ part-settle-all-end-10 c =
 settle-all-requires : tie.Need-settle-all-requires
 unfolding tableAt listAt
 settle-all-requires c κs =
-    let s = (c .before .before .before .before .before .before .before .before .before .before .before .before .before .before .before .before .before .before .before .before) .pre .2 in (s .fits, s .packets-fit)
+    let s = (c .before .before .before .before .before .before .before .before .before .before .before .before .before .before .before .before .before .before .before .before) .pre .2 in (s .steady, s .packets-fit)
 
 same-length : tie.Need-same-length
 same-length c =

@@ -9,9 +9,10 @@ use Rattle.layout.proofs.Ranges.{table-high}
 use Rattle.hash.specs.Places.{cellOf}
 use Rattle.list.specs.Records.{Records, records, keyAt}
 use Rattle.list.proofs.Laws.{key-part, length-key, key-inside, keys-inside, key-small}
+use Rattle.marks.specs.Marks.{firstMark}
 use Rattle.table.specs.Table.{Tab, tab, InBytes}
 use Rattle.peeling.proofs.Answers.{xor-inside, key-back, back-inside, first-two, all-places, listed-few, leads-to}
-use Rattle.peeling.proofs.Answers.{peel-quiet, peel-full, peel-damaged, peel-taken}
+use Rattle.peeling.proofs.Answers.{peel-quiet, peel-damaged, peel-taken}
 use borrow.Author.Needs.{needs}
 use Rattle.peeling.proofs.peel.Statement.{statement}
 use Rattle.peeling.proofs.peel.Tie as tie
@@ -33,10 +34,15 @@ part-is : (s : tie.Start) (bytes : List ℕ) (i : ℕ) → part s bytes i ≡ ke
 part-is s bytes i = key-part (s .args .l) bytes i {k = lent s i} (omega arith)
 
 here : (s : tie.Start) {cells i : ℕ} → cells ≡ tableCells (s .args .l) (s .args .z) → i < cells → InBytes (s .args .l) (length (s .args .xors .now)) i
-here s {i = i} e h = xor-inside i (s .pre .table) (omega arith)
+here s {i = i} e h = xor-inside i (s .pre .0 .table) (omega arith)
 
 small : (s : tie.Start) → s .args .n * s .args .l .key + s .args .l .key ≤ 1475040
-small s = key-small (s .args .n) (s .pre .table .lays) (s .pre .table .ranged) (s .pre .listed)
+small s = key-small (s .args .n) (s .pre .0 .table .lays) (s .pre .0 .table .ranged) (s .pre .0 .listed)
+
+-- a marked cell, and so room for one record more
+room : (s : tie.Start) {cells i : ℕ} → cells ≡ tableCells (s .args .l) (s .args .z) → i ≡ firstMark (s .args .marks .now) → i < cells
+    → s .args .n < 2 * tableCells (s .args .l) (s .args .z)
+room s e m h = s .pre .1 (omega arith)
 
 length-part : (s : tie.Start) {cells i : ℕ} → cells ≡ tableCells (s .args .l) (s .args .z) → i < cells → length
     (part s (s .args .xors .now) i) ≡ s .args .l .key
@@ -48,7 +54,7 @@ table-cells-requires c κs = search needs
 first-mark-requires : tie.Need-first-mark-requires
 first-mark-requires c κs =
     let s = (c .before .before .before .before .before .before .before .before .before .before .before) in omega
-    (arith, s .pre .table .marks-fit, table-high (s .args .l) (s .args .z) (s .pre .table .lays) (s .pre .table .ranged))
+    (arith, s .pre .0 .table .marks-fit, table-high (s .args .l) (s .args .z) (s .pre .0 .table .lays) (s .pre .0 .table .ranged))
 
 same-length : tie.Need-same-length
 same-length c = search needs
@@ -56,27 +62,15 @@ same-length c = search needs
 returns : tie.Need-returns
 returns c =
     let s = (c .before .before .before .before .before .before .before .before .before .before .before .before .before) in
-    peel-quiet (s .args .l) (s .args .z) (s .args .salt) (s .args .n) (T s) (R s) (s .args .seen .now) (s .pre)
+    peel-quiet (s .args .l) (s .args .z) (s .args .salt) (s .args .n) (T s) (R s) (s .args .seen .now) (s .pre .0)
     (c .before .before .before .table-cells .ensures) (c .before .first-mark .ensures) (c .if1 .taken)
-
-mul-if2 : tie.Need-mul-if2
-mul-if2 c = search needs
-
-same-length-2 : tie.Need-same-length-2
-same-length-2 c = search needs
-
-returns-2 : tie.Need-returns-2
-returns-2 c =
-    let s = (c .before .before .before .before .before .before .before .before .before .before .before .before .before .before) in
-    peel-full (s .args .l) (s .args .z) (s .args .salt) (s .args .n) (T s) (R s) (s .args .seen .now) (s .pre)
-    (c .before .before .before .before .table-cells .ensures) (c .before .before .first-mark .ensures) (c .before .if1 .left) (c .if2 .taken)
 
 mul-a : tie.Need-mul-a
 mul-a c =
     omega (
       arith,
-      here (c .before .before .before .before .before .before .before .before .before .before .before .before .before .before .before)
-          (c .before .before .before .before .before .table-cells .ensures) (c .before .before .if1 .left),
+      here (c .before .before .before .before .before .before .before .before .before .before .before .before .before .before)
+          (c .before .before .before .before .table-cells .ensures) (c .before .if1 .left),
     )
 
 add-e : tie.Need-add-e
@@ -84,17 +78,17 @@ add-e c =
     omega (
       arith,
       here
-          (c .before .before .before .before .before .before .before .before .before .before .before .before .before .before .before .before)
-          (c .before .before .before .before .before .before .table-cells .ensures) (c .before .before .before .if1 .left),
+          (c .before .before .before .before .before .before .before .before .before .before .before .before .before .before .before)
+          (c .before .before .before .before .before .table-cells .ensures) (c .before .before .if1 .left),
     )
 
 mul-b : tie.Need-mul-b
 mul-b c =
-    omega (arith, small (c .before .before .before .before .before .before .before .before .before .before .before .before .before .before .before .before .before))
+    omega (arith, small (c .before .before .before .before .before .before .before .before .before .before .before .before .before .before .before .before))
 
 add-d : tie.Need-add-d
 add-d c =
-    omega (arith, small (c .before .before .before .before .before .before .before .before .before .before .before .before .before .before .before .before .before .before))
+    omega (arith, small (c .before .before .before .before .before .before .before .before .before .before .before .before .before .before .before .before .before))
 
 sub-cells-of : tie.Need-sub-cells-of
 sub-cells-of c = search needs
@@ -104,7 +98,7 @@ part-cells-of-start c = search needs
 
 part-cells-of-end : tie.Need-part-cells-of-end
 part-cells-of-end c =
-    here (c .before .before .before .before .before .before .before .before .before .before .before .before .before .before .before .before .before .before .before) (c .before .before .before .before .before .before .before .before .before .table-cells .ensures) (c .before .before .before .before .before .before .if1 .left)
+    here (c .before .before .before .before .before .before .before .before .before .before .before .before .before .before .before .before .before .before) (c .before .before .before .before .before .before .before .before .table-cells .ensures) (c .before .before .before .before .before .if1 .left)
 
 cells-of-requires : tie.Need-cells-of-requires
 cells-of-requires c κs = search needs
@@ -117,27 +111,30 @@ part-is-damaged-start c = search needs
 
 part-is-damaged-end : tie.Need-part-is-damaged-end
 part-is-damaged-end c =
-    here (c .before .before .before .before .before .before .before .before .before .before .before .before .before .before .before .before .before .before .before .before .before .before) (c .before .before .before .before .before .before .before .before .before .before .before .before .table-cells .ensures) (c .before .before .before .before .before .before .before .before .before .if1 .left)
+    here (c .before .before .before .before .before .before .before .before .before .before .before .before .before .before .before .before .before .before .before .before .before) (c .before .before .before .before .before .before .before .before .before .before .before .table-cells .ensures) (c .before .before .before .before .before .before .before .before .if1 .left)
 
 is-damaged-requires : tie.Need-is-damaged-requires
 is-damaged-requires c κs =
-    let s = (c .before .before .before .before .before .before .before .before .before .before .before .before .before .before .before .before .before .before .before .before .before .before .before .before .before .before) in
+    let s = (c .before .before .before .before .before .before .before .before .before .before .before .before .before .before .before .before .before .before .before .before .before .before .before .before .before) in
     let a = s .args in
     let key = part s (a .xors .now)
-    (c .before .before .before .before .before .before .before .before .before .before .before .before .before .before .first-mark .result) in
+    (c .before .before .before .before .before .before .before .before .before .before .before .before .before .first-mark .result) in
     let len = length-part s
-    (c .before .before .before .before .before .before .before .before .before .before .before .before .before .before .before .before .table-cells .ensures) (c .before .before .before .before .before .before .before .before .before .before .before .before .before .if1 .left) in (
-      first-two (a .l) (a .z) (a .salt) (a .n) (T s) (R s) (a .seen .now) (s .pre) key
+    (c .before .before .before .before .before .before .before .before .before .before .before .before .before .before .before .table-cells .ensures) (c .before .before .before .before .before .before .before .before .before .before .before .before .if1 .left) in (
+      first-two (a .l) (a .z) (a .salt) (a .n) (T s) (R s) (a .seen .now) (s .pre .0) key
           (c .before .before .before .before .before .cells-of .ensures),
-      listed-few (a .l) (a .z) (a .salt) (a .n) (T s) (R s) (a .seen .now) (s .pre),
-      keys-inside (a .n) (s .pre .room) (s .pre .listed),
+      listed-few (a .l) (a .z) (a .salt) (a .n) (T s) (R s) (a .seen .now) (s .pre .0),
+      keys-inside (a .n) (s .pre .0 .room) (s .pre .0 .listed),
       len,
-      leads-to (a .l) (a .z) (a .salt) (a .n) (T s) (R s) (a .seen .now) (s .pre) key
+      leads-to (a .l) (a .z) (a .salt) (a .n) (T s) (R s) (a .seen .now) (s .pre .0) key
           (c .before .before .before .before .before .cells-of .ensures),
-      s .pre .table .ranged .k-high,
-      all-places (a .l) (a .z) (a .salt) (a .n) (T s) (R s) (a .seen .now) (s .pre) key
+      s .pre .0 .table .ranged .k-high,
+      all-places (a .l) (a .z) (a .salt) (a .n) (T s) (R s) (a .seen .now) (s .pre .0) key
           (c .before .before .before .before .before .cells-of .ensures),
     )
+
+same-length-2 : tie.Need-same-length-2
+same-length-2 c = search needs
 
 same-length-3 : tie.Need-same-length-3
 same-length-3 c = search needs
@@ -151,17 +148,14 @@ same-length-5 c = search needs
 same-length-6 : tie.Need-same-length-6
 same-length-6 c = search needs
 
-same-length-7 : tie.Need-same-length-7
-same-length-7 c = search needs
-
-returns-3 : tie.Need-returns-3
-returns-3 c =
-    let s = (c .before .before .before .before .before .before .before .before .before .before .before .before .before .before .before .before .before .before .before .before .before .before .before .before .before .before .before .before) in
+returns-2 : tie.Need-returns-2
+returns-2 c =
+    let s = (c .before .before .before .before .before .before .before .before .before .before .before .before .before .before .before .before .before .before .before .before .before .before .before .before .before .before .before) in
     let a = s .args in
-    peel-damaged (a .l) (a .z) (a .salt) (a .n) (T s) (R s) (a .seen .now) (s .pre)
-    (c .before .before .before .before .before .before .before .before .before .before .before .before .before .before .before .before .before .before .table-cells .ensures) (c .before .before .before .before .before .before .before .before .before .before .before .before .before .before .before .before .first-mark .ensures) (c .before .before .before .before .before .before .before .before .before .before .before .before .before .before .before .if1 .left) (c .before .before .before .before .before .before .before .before .before .before .before .before .before .before .if2 .left)
+    peel-damaged (a .l) (a .z) (a .salt) (a .n) (T s) (R s) (a .seen .now) (s .pre .0)
+    (c .before .before .before .before .before .before .before .before .before .before .before .before .before .before .before .before .before .table-cells .ensures) (c .before .before .before .before .before .before .before .before .before .before .before .before .before .before .before .first-mark .ensures) (c .before .before .before .before .before .before .before .before .before .before .before .before .before .before .if1 .left)
     (part-is s (a .xors .now)
-    (c .before .before .before .before .before .before .before .before .before .before .before .before .before .before .before .before .first-mark .result)) (c .before .before .before .before .before .before .before .cells-of .ensures) (c .before .is-damaged .ensures) (c .if3 .taken)
+    (c .before .before .before .before .before .before .before .before .before .before .before .before .before .before .before .first-mark .result)) (c .before .before .before .before .before .before .before .cells-of .ensures) (c .before .is-damaged .ensures) (c .if2 .taken)
 
 sub-append : tie.Need-sub-append
 sub-append c = search needs
@@ -171,33 +165,33 @@ part-append-start c = search needs
 
 part-append-end : tie.Need-part-append-end
 part-append-end c =
-    here (c .before .before .before .before .before .before .before .before .before .before .before .before .before .before .before .before .before .before .before .before .before .before .before .before .before .before .before .before .before) (c .before .before .before .before .before .before .before .before .before .before .before .before .before .before .before .before .before .before .before .table-cells .ensures) (c .before .before .before .before .before .before .before .before .before .before .before .before .before .before .before .before .if1 .left)
+    here (c .before .before .before .before .before .before .before .before .before .before .before .before .before .before .before .before .before .before .before .before .before .before .before .before .before .before .before .before) (c .before .before .before .before .before .before .before .before .before .before .before .before .before .before .before .before .before .before .table-cells .ensures) (c .before .before .before .before .before .before .before .before .before .before .before .before .before .before .before .if1 .left)
 
 append-requires : tie.Need-append-requires
 append-requires c κs =
-    let s = (c .before .before .before .before .before .before .before .before .before .before .before .before .before .before .before .before .before .before .before .before .before .before .before .before .before .before .before .before .before .before .before .before .before) in
-    let room = s .pre .room in (
-      length-part s (c .before .before .before .before .before .before .before .before .before .before .before .before .before .before .before .before .before .before .before .before .before .before .before .table-cells .ensures) (c .before .before .before .before .before .before .before .before .before .before .before .before .before .before .before .before .before .before .before .before .if1 .left),
-      key-inside (s .args .n) room
-          (omega (arith, c .before .before .before .before .before .before .before .before .before .before .before .before .before .before .before .before .before .before .before .before .before .before .before .table-cells .ensures, c .before .before .before .before .before .before .before .before .before .before .before .before .before .before .before .before .before .before .before .if2 .left)),
-      omega (arith, room .counts-fit, c .before .before .before .before .before .before .before .before .before .before .before .before .before .before .before .before .before .before .before .before .before .before .before .table-cells .ensures, c .before .before .before .before .before .before .before .before .before .before .before .before .before .before .before .before .before .before .before .if2 .left),
-      omega (arith, room .flags-fit, c .before .before .before .before .before .before .before .before .before .before .before .before .before .before .before .before .before .before .before .before .before .before .before .table-cells .ensures, c .before .before .before .before .before .before .before .before .before .before .before .before .before .before .before .before .before .before .before .if2 .left),
+    let s = (c .before .before .before .before .before .before .before .before .before .before .before .before .before .before .before .before .before .before .before .before .before .before .before .before .before .before .before .before .before .before .before .before) in
+    let lists = s .pre .0 .room in (
+      length-part s (c .before .before .before .before .before .before .before .before .before .before .before .before .before .before .before .before .before .before .before .before .before .before .table-cells .ensures) (c .before .before .before .before .before .before .before .before .before .before .before .before .before .before .before .before .before .before .before .if1 .left),
+      key-inside (s .args .n) lists
+          (room s (c .before .before .before .before .before .before .before .before .before .before .before .before .before .before .before .before .before .before .before .before .before .before .table-cells .ensures) (c .before .before .before .before .before .before .before .before .before .before .before .before .before .before .before .before .before .before .before .before .first-mark .ensures) (c .before .before .before .before .before .before .before .before .before .before .before .before .before .before .before .before .before .before .before .if1 .left)),
+      omega (arith, lists .counts-fit, room s (c .before .before .before .before .before .before .before .before .before .before .before .before .before .before .before .before .before .before .before .before .before .before .table-cells .ensures) (c .before .before .before .before .before .before .before .before .before .before .before .before .before .before .before .before .before .before .before .before .first-mark .ensures) (c .before .before .before .before .before .before .before .before .before .before .before .before .before .before .before .before .before .before .before .if1 .left)),
+      omega (arith, lists .flags-fit, room s (c .before .before .before .before .before .before .before .before .before .before .before .before .before .before .before .before .before .before .before .before .before .before .table-cells .ensures) (c .before .before .before .before .before .before .before .before .before .before .before .before .before .before .before .before .before .before .before .before .first-mark .ensures) (c .before .before .before .before .before .before .before .before .before .before .before .before .before .before .before .before .before .before .before .if1 .left)),
     )
 
 bucket-requires : tie.Need-bucket-requires
 bucket-requires c κs =
-    let s = (c .before .before .before .before .before .before .before .before .before .before .before .before .before .before .before .before .before .before .before .before .before .before .before .before .before .before .before .before .before .before .before .before .before .before .before .before .before .before .before .before .before) in
+    let s = (c .before .before .before .before .before .before .before .before .before .before .before .before .before .before .before .before .before .before .before .before .before .before .before .before .before .before .before .before .before .before .before .before .before .before .before .before .before .before .before .before) in
     let a = s .args in
-    first-two (a .l) (a .z) (a .salt) (a .n) (T s) (R s) (a .seen .now) (s .pre)
+    first-two (a .l) (a .z) (a .salt) (a .n) (T s) (R s) (a .seen .now) (s .pre .0)
     (part s (a .xors .now)
-    (c .before .before .before .before .before .before .before .before .before .before .before .before .before .before .before .before .before .before .before .before .before .before .before .before .before .before .before .before .before .first-mark .result)) (c .before .before .before .before .before .before .before .before .before .before .before .before .before .before .before .before .before .before .before .before .cells-of .ensures)
+    (c .before .before .before .before .before .before .before .before .before .before .before .before .before .before .before .before .before .before .before .before .before .before .before .before .before .before .before .before .first-mark .result)) (c .before .before .before .before .before .before .before .before .before .before .before .before .before .before .before .before .before .before .before .before .cells-of .ensures)
 
 link-requires : tie.Need-link-requires
 link-requires c κs =
-    let s = (c .before .before .before .before .before .before .before .before .before .before .before .before .before .before .before .before .before .before .before .before .before .before .before .before .before .before .before .before .before .before .before .before .before .before .before .before .before .before .before .before .before .before) in (
-      s .pre .covers .sized,
+    let s = (c .before .before .before .before .before .before .before .before .before .before .before .before .before .before .before .before .before .before .before .before .before .before .before .before .before .before .before .before .before .before .before .before .before .before .before .before .before .before .before .before .before) in (
+      s .pre .0 .covers .sized,
       omega (arith, c .bucket .ensures),
-      omega (arith, table-high (s .args .l) (s .args .z) (s .pre .table .lays) (s .pre .table .ranged), c .before .before .before .before .before .before .before .before .before .before .before .before .before .before .before .before .before .before .before .before .before .before .before .before .before .before .before .before .if2 .left, c .before .before .before .before .before .before .before .before .before .before .before .before .before .before .before .before .before .before .before .before .before .before .before .before .before .before .before .before .before .before .before .before .table-cells .ensures),
+      omega (arith, table-high (s .args .l) (s .args .z) (s .pre .0 .table .lays) (s .pre .0 .table .ranged), room s (c .before .before .before .before .before .before .before .before .before .before .before .before .before .before .before .before .before .before .before .before .before .before .before .before .before .before .before .before .before .before .before .table-cells .ensures) (c .before .before .before .before .before .before .before .before .before .before .before .before .before .before .before .before .before .before .before .before .before .before .before .before .before .before .before .before .before .first-mark .ensures) (c .before .before .before .before .before .before .before .before .before .before .before .before .before .before .before .before .before .before .before .before .before .before .before .before .before .before .before .before .if1 .left)),
     )
 
 sub-take-out : tie.Need-sub-take-out
@@ -208,28 +202,31 @@ part-take-out-start c = search needs
 
 part-take-out-end : tie.Need-part-take-out-end
 part-take-out-end c =
-    let s = (c .before .before .before .before .before .before .before .before .before .before .before .before .before .before .before .before .before .before .before .before .before .before .before .before .before .before .before .before .before .before .before .before .before .before .before .before .before .before .before .before .before .before .before .before .before .before) in
+    let s = (c .before .before .before .before .before .before .before .before .before .before .before .before .before .before .before .before .before .before .before .before .before .before .before .before .before .before .before .before .before .before .before .before .before .before .before .before .before .before .before .before .before .before .before .before .before) in
     back-inside (s .args .l) (s .args .n)
     (part s (s .args .xors .now)
-    (c .before .before .before .before .before .before .before .before .before .before .before .before .before .before .before .before .before .before .before .before .before .before .before .before .before .before .before .before .before .before .before .before .before .before .first-mark .result)) 0 (R s) (s .pre .room) (omega (arith, c .before .before .before .before .before .before .before .before .before .before .before .before .before .before .before .before .before .before .before .before .before .before .before .before .before .before .before .before .before .before .before .before .before .before .before .before .table-cells .ensures, c .before .before .before .before .before .before .before .before .before .before .before .before .before .before .before .before .before .before .before .before .before .before .before .before .before .before .before .before .before .before .before .before .if2 .left)) (c .before .before .before .before .before .before .before .before .before .before .before .before .append .ensures)
+    (c .before .before .before .before .before .before .before .before .before .before .before .before .before .before .before .before .before .before .before .before .before .before .before .before .before .before .before .before .before .before .before .before .before .first-mark .result)) 0 (R s) (s .pre .0 .room) (room s (c .before .before .before .before .before .before .before .before .before .before .before .before .before .before .before .before .before .before .before .before .before .before .before .before .before .before .before .before .before .before .before .before .before .before .before .table-cells .ensures) (c .before .before .before .before .before .before .before .before .before .before .before .before .before .before .before .before .before .before .before .before .before .before .before .before .before .before .before .before .before .before .before .before .before .first-mark .ensures) (c .before .before .before .before .before .before .before .before .before .before .before .before .before .before .before .before .before .before .before .before .before .before .before .before .before .before .before .before .before .before .before .before .if1 .left)) (c .before .before .before .before .before .before .before .before .before .before .before .before .append .ensures)
 
 cast-take-out : tie.Need-cast-take-out
 cast-take-out c =
-    let s = (c .before .before .before .before .before .before .before .before .before .before .before .before .before .before .before .before .before .before .before .before .before .before .before .before .before .before .before .before .before .before .before .before .before .before .before .before .before .before .before .before .before .before .before .before .before .before .before) in
-    omega (arith, s .pre .listed, table-high (s .args .l) (s .args .z) (s .pre .table .lays) (s .pre .table .ranged))
+    let s = (c .before .before .before .before .before .before .before .before .before .before .before .before .before .before .before .before .before .before .before .before .before .before .before .before .before .before .before .before .before .before .before .before .before .before .before .before .before .before .before .before .before .before .before .before .before .before) in
+    omega (arith, s .pre .0 .listed, table-high (s .args .l) (s .args .z) (s .pre .0 .table .lays) (s .pre .0 .table .ranged))
 
 take-out-requires : tie.Need-take-out-requires
 take-out-requires c κs =
-    let s = (c .before .before .before .before .before .before .before .before .before .before .before .before .before .before .before .before .before .before .before .before .before .before .before .before .before .before .before .before .before .before .before .before .before .before .before .before .before .before .before .before .before .before .before .before .before .before .before .before .before .before .before .before) in
+    let s = (c .before .before .before .before .before .before .before .before .before .before .before .before .before .before .before .before .before .before .before .before .before .before .before .before .before .before .before .before .before .before .before .before .before .before .before .before .before .before .before .before .before .before .before .before .before .before .before .before .before .before .before) in
     let a = s .args in
     let len = length-part s
-    (c .before .before .before .before .before .before .before .before .before .before .before .before .before .before .before .before .before .before .before .before .before .before .before .before .before .before .before .before .before .before .before .before .before .before .before .before .before .before .before .before .before .before .table-cells .ensures) (c .before .before .before .before .before .before .before .before .before .before .before .before .before .before .before .before .before .before .before .before .before .before .before .before .before .before .before .before .before .before .before .before .before .before .before .before .before .before .before .if1 .left) in
+    (c .before .before .before .before .before .before .before .before .before .before .before .before .before .before .before .before .before .before .before .before .before .before .before .before .before .before .before .before .before .before .before .before .before .before .before .before .before .before .before .before .before .table-cells .ensures) (c .before .before .before .before .before .before .before .before .before .before .before .before .before .before .before .before .before .before .before .before .before .before .before .before .before .before .before .before .before .before .before .before .before .before .before .before .before .before .if1 .left) in
     let back = part-is s
     (c .before .before .before .before .before .before .before .before .before .before .before .before .before .before .before .before .before .before .append .last .1 .1 .1 .1 .0) (a .n)
     ∙ key-back (a .l) (a .n)
     (part s (a .xors .now)
-    (c .before .before .before .before .before .before .before .before .before .before .before .before .before .before .before .before .before .before .before .before .before .before .before .before .before .before .before .before .before .before .before .before .before .before .before .before .before .before .before .before .first-mark .result)) 0 (R s) (s .pre .room) (omega (arith, c .before .before .before .before .before .before .before .before .before .before .before .before .before .before .before .before .before .before .before .before .before .before .before .before .before .before .before .before .before .before .before .before .before .before .before .before .before .before .before .before .before .before .table-cells .ensures, c .before .before .before .before .before .before .before .before .before .before .before .before .before .before .before .before .before .before .before .before .before .before .before .before .before .before .before .before .before .before .before .before .before .before .before .before .before .before .if2 .left)) len (c .before .before .before .before .before .before .before .before .before .before .before .before .before .before .before .before .before .before .append .ensures) in
-    (s .pre .table, c .before .before .before .before .before .before .before .before .before .before .before .before .before .before .before .before .before .before .before .before .before .before .before .before .before .before .before .before .before .before .before .cells-of .ensures ∙ ap (λ k. listUpto 4 (cellOf (a .l) (a .z) (a .salt) k)) (sym back), ap length back ∙ len)
+    (c .before .before .before .before .before .before .before .before .before .before .before .before .before .before .before .before .before .before .before .before .before .before .before .before .before .before .before .before .before .before .before .before .before .before .before .before .before .before .before .first-mark .result)) 0 (R s) (s .pre .0 .room) (room s (c .before .before .before .before .before .before .before .before .before .before .before .before .before .before .before .before .before .before .before .before .before .before .before .before .before .before .before .before .before .before .before .before .before .before .before .before .before .before .before .before .before .table-cells .ensures) (c .before .before .before .before .before .before .before .before .before .before .before .before .before .before .before .before .before .before .before .before .before .before .before .before .before .before .before .before .before .before .before .before .before .before .before .before .before .before .before .first-mark .ensures) (c .before .before .before .before .before .before .before .before .before .before .before .before .before .before .before .before .before .before .before .before .before .before .before .before .before .before .before .before .before .before .before .before .before .before .before .before .before .before .if1 .left)) len (c .before .before .before .before .before .before .before .before .before .before .before .before .before .before .before .before .before .before .append .ensures) in
+    (s .pre .0 .table, c .before .before .before .before .before .before .before .before .before .before .before .before .before .before .before .before .before .before .before .before .before .before .before .before .before .before .before .before .before .before .before .cells-of .ensures ∙ ap (λ k. listUpto 4 (cellOf (a .l) (a .z) (a .salt) k)) (sym back), ap length back ∙ len)
+
+same-length-7 : tie.Need-same-length-7
+same-length-7 c = search needs
 
 same-length-8 : tie.Need-same-length-8
 same-length-8 c = search needs
@@ -255,24 +252,21 @@ same-length-14 c = search needs
 same-length-15 : tie.Need-same-length-15
 same-length-15 c = search needs
 
-same-length-16 : tie.Need-same-length-16
-same-length-16 c = search needs
-
-returns-4 : tie.Need-returns-4
-returns-4 c =
-    let s = (c .before .before .before .before .before .before .before .before .before .before .before .before .before .before .before .before .before .before .before .before .before .before .before .before .before .before .before .before .before .before .before .before .before .before .before .before .before .before .before .before .before .before .before .before .before .before .before .before .before .before .before .before .before .before .before .before .before .before .before .before .before .before .before) in
+returns-3 : tie.Need-returns-3
+returns-3 c =
+    let s = (c .before .before .before .before .before .before .before .before .before .before .before .before .before .before .before .before .before .before .before .before .before .before .before .before .before .before .before .before .before .before .before .before .before .before .before .before .before .before .before .before .before .before .before .before .before .before .before .before .before .before .before .before .before .before .before .before .before .before .before .before .before .before) in
     let a = s .args in
     let len = length-part s
-    (c .before .before .before .before .before .before .before .before .before .before .before .before .before .before .before .before .before .before .before .before .before .before .before .before .before .before .before .before .before .before .before .before .before .before .before .before .before .before .before .before .before .before .before .before .before .before .before .before .before .before .before .before .before .table-cells .ensures) (c .before .before .before .before .before .before .before .before .before .before .before .before .before .before .before .before .before .before .before .before .before .before .before .before .before .before .before .before .before .before .before .before .before .before .before .before .before .before .before .before .before .before .before .before .before .before .before .before .before .before .if1 .left) in
+    (c .before .before .before .before .before .before .before .before .before .before .before .before .before .before .before .before .before .before .before .before .before .before .before .before .before .before .before .before .before .before .before .before .before .before .before .before .before .before .before .before .before .before .before .before .before .before .before .before .before .before .before .before .table-cells .ensures) (c .before .before .before .before .before .before .before .before .before .before .before .before .before .before .before .before .before .before .before .before .before .before .before .before .before .before .before .before .before .before .before .before .before .before .before .before .before .before .before .before .before .before .before .before .before .before .before .before .before .if1 .left) in
     let back = part-is s
     (c .before .before .before .before .before .before .before .before .before .before .before .before .before .before .before .before .before .before .before .before .before .before .before .before .before .before .before .before .before .append .last .1 .1 .1 .1 .0) (a .n)
     ∙ key-back (a .l) (a .n)
     (part s (a .xors .now)
-    (c .before .before .before .before .before .before .before .before .before .before .before .before .before .before .before .before .before .before .before .before .before .before .before .before .before .before .before .before .before .before .before .before .before .before .before .before .before .before .before .before .before .before .before .before .before .before .before .before .before .before .before .first-mark .result)) 0 (R s) (s .pre .room) (omega (arith, c .before .before .before .before .before .before .before .before .before .before .before .before .before .before .before .before .before .before .before .before .before .before .before .before .before .before .before .before .before .before .before .before .before .before .before .before .before .before .before .before .before .before .before .before .before .before .before .before .before .before .before .before .before .table-cells .ensures, c .before .before .before .before .before .before .before .before .before .before .before .before .before .before .before .before .before .before .before .before .before .before .before .before .before .before .before .before .before .before .before .before .before .before .before .before .before .before .before .before .before .before .before .before .before .before .before .before .before .if2 .left)) len (c .before .before .before .before .before .before .before .before .before .before .before .before .before .before .before .before .before .before .before .before .before .before .before .before .before .before .before .before .before .append .ensures) in
-    peel-taken (a .l) (a .z) (a .salt) (a .n) (T s) (R s) (a .seen .now) (s .pre)
-    (c .before .before .before .before .before .before .before .before .before .before .before .before .before .before .before .before .before .before .before .before .before .before .before .before .before .before .before .before .before .before .before .before .before .before .before .before .before .before .before .before .before .before .before .before .before .before .before .before .before .before .before .before .before .table-cells .ensures) (c .before .before .before .before .before .before .before .before .before .before .before .before .before .before .before .before .before .before .before .before .before .before .before .before .before .before .before .before .before .before .before .before .before .before .before .before .before .before .before .before .before .before .before .before .before .before .before .before .before .before .before .first-mark .ensures) (c .before .before .before .before .before .before .before .before .before .before .before .before .before .before .before .before .before .before .before .before .before .before .before .before .before .before .before .before .before .before .before .before .before .before .before .before .before .before .before .before .before .before .before .before .before .before .before .before .before .before .if1 .left) (c .before .before .before .before .before .before .before .before .before .before .before .before .before .before .before .before .before .before .before .before .before .before .before .before .before .before .before .before .before .before .before .before .before .before .before .before .before .before .before .before .before .before .before .before .before .before .before .before .before .if2 .left)
+    (c .before .before .before .before .before .before .before .before .before .before .before .before .before .before .before .before .before .before .before .before .before .before .before .before .before .before .before .before .before .before .before .before .before .before .before .before .before .before .before .before .before .before .before .before .before .before .before .before .before .before .first-mark .result)) 0 (R s) (s .pre .0 .room) (room s (c .before .before .before .before .before .before .before .before .before .before .before .before .before .before .before .before .before .before .before .before .before .before .before .before .before .before .before .before .before .before .before .before .before .before .before .before .before .before .before .before .before .before .before .before .before .before .before .before .before .before .before .before .table-cells .ensures) (c .before .before .before .before .before .before .before .before .before .before .before .before .before .before .before .before .before .before .before .before .before .before .before .before .before .before .before .before .before .before .before .before .before .before .before .before .before .before .before .before .before .before .before .before .before .before .before .before .before .before .first-mark .ensures) (c .before .before .before .before .before .before .before .before .before .before .before .before .before .before .before .before .before .before .before .before .before .before .before .before .before .before .before .before .before .before .before .before .before .before .before .before .before .before .before .before .before .before .before .before .before .before .before .before .before .if1 .left)) len (c .before .before .before .before .before .before .before .before .before .before .before .before .before .before .before .before .before .before .before .before .before .before .before .before .before .before .before .before .before .append .ensures) in
+    peel-taken (a .l) (a .z) (a .salt) (a .n) (T s) (R s) (a .seen .now) (s .pre .0)
+    (c .before .before .before .before .before .before .before .before .before .before .before .before .before .before .before .before .before .before .before .before .before .before .before .before .before .before .before .before .before .before .before .before .before .before .before .before .before .before .before .before .before .before .before .before .before .before .before .before .before .before .before .before .table-cells .ensures) (c .before .before .before .before .before .before .before .before .before .before .before .before .before .before .before .before .before .before .before .before .before .before .before .before .before .before .before .before .before .before .before .before .before .before .before .before .before .before .before .before .before .before .before .before .before .before .before .before .before .before .first-mark .ensures) (c .before .before .before .before .before .before .before .before .before .before .before .before .before .before .before .before .before .before .before .before .before .before .before .before .before .before .before .before .before .before .before .before .before .before .before .before .before .before .before .before .before .before .before .before .before .before .before .before .before .if1 .left)
     (part-is s (a .xors .now)
-    (c .before .before .before .before .before .before .before .before .before .before .before .before .before .before .before .before .before .before .before .before .before .before .before .before .before .before .before .before .before .before .before .before .before .before .before .before .before .before .before .before .before .before .before .before .before .before .before .before .before .before .before .first-mark .result)) (c .before .before .before .before .before .before .before .before .before .before .before .before .before .before .before .before .before .before .before .before .before .before .before .before .before .before .before .before .before .before .before .before .before .before .before .before .before .before .before .before .before .before .cells-of .ensures) (c .before .before .before .before .before .before .before .before .before .before .before .before .before .before .before .before .before .before .before .before .before .before .before .before .before .before .before .before .before .before .before .before .before .before .before .before .is-damaged .ensures) (c .before .before .before .before .before .before .before .before .before .before .before .before .before .before .before .before .before .before .before .before .before .before .before .before .before .before .before .before .before .before .before .before .before .before .before .if3 .left)
+    (c .before .before .before .before .before .before .before .before .before .before .before .before .before .before .before .before .before .before .before .before .before .before .before .before .before .before .before .before .before .before .before .before .before .before .before .before .before .before .before .before .before .before .before .before .before .before .before .before .before .before .first-mark .result)) (c .before .before .before .before .before .before .before .before .before .before .before .before .before .before .before .before .before .before .before .before .before .before .before .before .before .before .before .before .before .before .before .before .before .before .before .before .before .before .before .before .before .before .cells-of .ensures) (c .before .before .before .before .before .before .before .before .before .before .before .before .before .before .before .before .before .before .before .before .before .before .before .before .before .before .before .before .before .before .before .before .before .before .before .before .is-damaged .ensures) (c .before .before .before .before .before .before .before .before .before .before .before .before .before .before .before .before .before .before .before .before .before .before .before .before .before .before .before .before .before .before .before .before .before .before .before .if2 .left)
     (c .before .before .before .before .before .before .before .before .before .before .before .before .before .before .before .before .before .before .before .before .before .before .before .before .before .before .before .before .before .append .ensures) (c .before .before .before .before .before .before .before .before .before .before .before .before .before .before .before .before .before .before .before .before .before .bucket .ensures) (c .before .before .before .before .before .before .before .before .before .before .before .before .before .before .before .before .before .before .before .before .link .ensures) back (c .before .before .before .before .before .before .before .before .before .before .take-out .ensures)
 
 pub peel-spec : {M : Type 1} → statement M
@@ -283,9 +277,6 @@ peel-spec =
     first-mark-requires
     same-length
     returns
-    mul-if2
-    same-length-2
-    returns-2
     mul-a
     add-e
     mul-b
@@ -298,12 +289,12 @@ peel-spec =
     part-is-damaged-start
     part-is-damaged-end
     is-damaged-requires
+    same-length-2
     same-length-3
     same-length-4
     same-length-5
     same-length-6
-    same-length-7
-    returns-3
+    returns-2
     sub-append
     part-append-start
     part-append-end
@@ -315,6 +306,7 @@ peel-spec =
     part-take-out-end
     cast-take-out
     take-out-requires
+    same-length-7
     same-length-8
     same-length-9
     same-length-10
@@ -323,5 +315,4 @@ peel-spec =
     same-length-13
     same-length-14
     same-length-15
-    same-length-16
-    returns-4)
+    returns-3)

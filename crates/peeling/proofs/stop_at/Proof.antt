@@ -10,9 +10,6 @@ enum-told c = search needs
 enum-known-s : tie.Need-enum-known-s
 enum-known-s c = search needs
 
-enum-known-s-2 : tie.Need-enum-known-s-2
-enum-known-s-2 c = search needs
-
 enum-told-2 : tie.Need-enum-told-2
 enum-told-2 c = search needs
 
@@ -23,10 +20,7 @@ returns-2 : tie.Need-returns-2
 returns-2 c = ap (stopAt ((c .before .before .before) .args .n)) (sym (c .before .s .given .1))
 
 returns-3 : tie.Need-returns-3
-returns-3 c = ap (stopAt ((c .before .before .before) .args .n)) (sym (c .before .s2 .given .1))
-
-returns-4 : tie.Need-returns-4
-returns-4 c = ap (stopAt ((c .before .before) .args .n)) (sym (c .enum-told2 .given .1))
+returns-3 c = ap (stopAt ((c .before .before) .args .n)) (sym (c .enum-told2 .given .1))
 
 pub stop-at-spec : {M : Type 1} → statement M
 stop-at-spec =
@@ -34,9 +28,7 @@ stop-at-spec =
     (tie.spec
     enum-told
     enum-known-s
-    enum-known-s-2
     enum-told-2
     returns
     returns-2
-    returns-3
-    returns-4)
+    returns-3)

@@ -77,7 +77,7 @@ put-listed-requires c κs =
     let c40 = c26 .before .before .before .before .before .before .before .before .before .before .before .before .before .before in
     let c47 = c40 .before .before .before .before .before .before .before in
     let s = c47 in
-    let q = session-listed (s .args .s) (M s) (c26 .settle .ensures) (c6 .e .given .1) in (
+    let q = session-listed (s .args .s) (M s) (c26 .settle .ensures) (λ i. c40 .slice-known6 .given i .fits) (c6 .e .given .1) in (
       omega arith,
       q .few,
       omega (arith, q .cells, c26 .settle .kept),

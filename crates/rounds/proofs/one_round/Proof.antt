@@ -48,7 +48,7 @@ add-settle-both c =
     omega (
       arith,
       start .pre .2,
-      h .stands-a .fits .listed,
+      h .stands-a .steady .fits .listed,
       table-high (a .l) (a .s .sizes) (h .ends .lays) (h .ends .ranged-a),
       table-high (a .l) (a .t .sizes) (h .ends .lays) (h .ends .ranged-b),
       twelves-few (a .l) (switchOf (a .t)) fb ((partAt origin (a .p) (a .a) r) .list .keys) (a .a) (partAt (a .p) (a .e) (a .b) r) (one .1),
@@ -71,8 +71,8 @@ add-settle-both-2 c =
     omega (
       arith,
       start .pre .2,
-      h .stands-a .fits .listed,
-      both .stands-b .fits .listed,
+      h .stands-a .steady .fits .listed,
+      both .stands-b .steady .fits .listed,
       one .0,
       table-high (a .l) (a .s .sizes) (h .ends .lays) (h .ends .ranged-a),
       table-high (a .l) (a .t .sizes) (h .ends .lays) (h .ends .ranged-b),

@@ -104,7 +104,7 @@ hand-requires c κs =
     let q = c .before .before .before .before .before .before .before .before .before .before .before .enum-told3 .given .1 in
     let p = passes (s .args .l) (s .args .s) (M s)
     (c .before .before .before .before .before .before .before .before .before .before .before .before .before .before .test .ensures .0) q in
-    passes-hands (s .args .l) (s .args .s) (M s) (s .pre .0) p (s .args .key .now) (s .pre .1)
+    passes-hands (s .args .l) (s .args .s) (M s) (s .pre .0) p (λ i. c .before .before .before .before .before .before .before .before .before .before .before .before .before .before .before .before .before .before .before .before .before .before .before .before .before .before .before .slice-known5 .given i .fits) (s .args .key .now) (s .pre .1)
     (c .before .before .before .before .before .before .before .before .before .flagged-in .ensures .0)
     (c .before .before .before .before .before .before .before .before .before .before .before .before .before .before .test .ensures .1 q)
 

@@ -11,18 +11,12 @@ enum-known-e c = search needs
 enum-known-e-2 : tie.Need-enum-known-e-2
 enum-known-e-2 c = search needs
 
-enum-known-e-3 : tie.Need-enum-known-e-3
-enum-known-e-3 c = search needs
-
 returns : tie.Need-returns
 returns c = ap settleAnswer (sym (c .before .e .given .1))
 
 returns-2 : tie.Need-returns-2
 returns-2 c = ap settleAnswer (sym (c .before .e2 .given .1))
 
-returns-3 : tie.Need-returns-3
-returns-3 c = ap settleAnswer (sym (c .before .e3 .given .1))
-
 pub settle-answer-spec : {M : Type 1} → statement M
 settle-answer-spec =
-    tie.close (tie.spec enum-known-e enum-known-e-2 enum-known-e-3 returns returns-2 returns-3)
+    tie.close (tie.spec enum-known-e enum-known-e-2 returns returns-2)

@@ -3,7 +3,7 @@ use Rattle.index.proofs.Index.{empty-zeros}
 use Rattle.list.specs.Records.{records}
 use Rattle.table.specs.Table.{tab}
 use Rattle.room.specs.Memory.{Memory, memory}
-use Rattle.session.proofs.Answers.{passes, rooms, passes-fits, settle-not, settle-room, settle-passed}
+use Rattle.session.proofs.Answers.{passes, rooms, passes-steady, settle-not, settle-room, settle-passed}
 use borrow.Author.Needs.{needs}
 use Rattle.session.proofs.settle_in.Statement.{statement}
 use Rattle.session.proofs.settle_in.Tie as tie
@@ -103,7 +103,7 @@ settle-all-requires c κs =
     let q = c .before .before .before .before .before .before .before .before .before .before .enum-told3 .given .1 in
     let p = passes (s .args .l) (s .args .s) (M s)
     (c .before .before .before .before .before .before .before .before .before .before .before .before .before .test .ensures .0) q in (
-      passes-fits (s .args .l) (s .args .s) (M s) (s .pre) p
+      passes-steady (s .args .l) (s .args .s) (M s) (s .pre) p (λ i. c .before .before .before .before .before .before .before .before .before .before .before .before .before .before .before .before .before .before .before .before .before .before .before .before .before .before .before .slice-known6 .given i .fits)
           (c .before .before .before .before .before .before .before .before .before .before .before .before .before .test .ensures .1 q),
       rooms
           (s .args .l) (s .args .s) (M s) (s .pre) p .packets-fit,

@@ -17,6 +17,9 @@ peels-requires c κs = search needs
 enum-known-r : tie.Need-enum-known-r
 enum-known-r c = search needs
 
+enum-told : tie.Need-enum-told
+enum-told c = search needs
+
 same-length : tie.Need-same-length
 same-length c = search needs
 
@@ -46,10 +49,10 @@ same-length-9 c = search needs
 
 returns : tie.Need-returns
 returns c =
-    let s = (c .before .before .before .before .before .before .before .before .before .before .before .before .before .before .before .before .before .before .before .before .before .before .before .before .before .before .before .before .before .before .before .before .before .before .before .before .before .before .before) in
+    let s = (c .before .before .before .before .before .before .before .before .before .before .before .before .before .before .before .before .before .before .before .before .before .before .before .before .before .before .before .before .before .before .before .before .before .before .before .before .before .before .before .before) in
     let a = s .args in
     settle-stopped (a .l) (a .z) (a .salt) (a .n) (T s) (a .packets .now) (R s) (a .seen .now)
-    (c .before .before .before .before .before .before .before .before .before .before .before .before .before .before .before .before .before .before .before .peels .ensures) (c .match .keys2)
+    (c .before .before .before .before .before .before .before .before .before .before .before .before .before .before .before .before .before .before .before .before .peels .ensures) (c .before .match .keys2)
 
 count-all-requires : tie.Need-count-all-requires
 count-all-requires c κs =
@@ -104,6 +107,7 @@ settle-all-spec =
     (tie.spec
     peels-requires
     enum-known-r
+    enum-told
     same-length
     same-length-2
     same-length-3

@@ -6,7 +6,7 @@ use native.Mathlib.Omega.{arith}
 use lib.Dec.{ltb}
 use lib.ListN.{length, getD}
 use Rattle.laws.specs.Upto.{numberUpto}
-use Rattle.test8.specs.Test8.{openIn}
+use Rattle.table.specs.Table.{openIn}
 use Rattle.test8.proofs.open_in.Statement.{statement}
 use Rattle.test8.proofs.open_in.Tie as tie
 use Rattle.laws.proofs.Lowest.{number-turn}

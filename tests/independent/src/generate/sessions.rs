@@ -4,6 +4,7 @@
 mod exchanges;
 mod faults;
 mod hands;
+mod longest;
 pub mod opens;
 mod samples;
 pub mod sequences;
@@ -51,8 +52,13 @@ const SETTLED: [Family; 15] = [
     Family::Full,
 ];
 
+/// Of ten on a session, one has a list as long as it gets; the others count their turns without these.
 pub fn request(random: &mut Random, number: usize) -> Request {
     let (op, turn) = (CALLS[number % CALLS.len()], number / CALLS.len());
+    if op != OPEN && turn % 10 == 9 {
+        return longest::request(random, op, turn / 10);
+    }
+    let turn = if op == OPEN { turn } else { turn - turn / 10 };
     match op {
         _ if turn % 40 == 38 => wrong_length(random, op),
         OPEN => opens::request(random, turn),

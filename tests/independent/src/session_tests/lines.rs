@@ -186,19 +186,78 @@ pub fn lengths(tally: &mut Tally) {
     }
 }
 
-/// The edge of the list: 2 N records are a session, and one more is not.
-pub fn listed(tally: &mut Tally) {
-    let mut full = lent(HEADER, 96, &words(&[]));
-    for position in 0..96 {
+/// Known records, first the handed ones, into a session's memory; then so many are listed.
+fn with_records(mut session: LentSession, handed: usize, peeled: usize) -> LentSession {
+    for position in 0..handed + peeled {
         let mut key = [1; KEY_BYTES];
         key[0] = position as u8;
-        full.memory.put_key(Slice::Keys, position, &key);
-        full.memory.put(Slice::Counts, position, 5);
-        full.memory.put(Slice::Flags, position, if position < 48 { 3 } else { 1 });
+        session.memory.put_key(Slice::Keys, position, &key);
+        session.memory.put(Slice::Counts, position, 5);
+        session.memory.put(Slice::Flags, position, if position < handed { 3 } else { 1 });
     }
+    session.listed = (handed + peeled) as u32;
+    session
+}
+
+/// The edges of the list. 48 handed and 48 peeled are a session with no cell open, and one more of anything is not.
+pub fn longest(tally: &mut Tally) {
+    let full = with_records(lent(HEADER, 0, &words(&[])), 48, 48);
     let memory = full.memory.words().join(" ");
     says(tally, "2 N listed", &request_on(REPORT, &full), &format!("0 96 96 0 whole {memory}"));
-    full.listed = 97;
-    says(tally, "2 N + 1 listed", &request_on(REPORT, &full), &format!("8 {memory}"));
-    tally.equal("its reason", full.reasons(), vec![Refusal::OverListed]);
+    says(tally, "2 N listed, settle", &request_on(SETTLE, &full), &format!("0 96 {memory}"));
+    says(tally, "2 N listed, 9", &hand_over_request(&full, &[7; KEY_BYTES]), &format!("9 {memory}"));
+    says(tally, "2 N listed, 11", &hand_over_request(&full, &ZERO_KEY), &format!("11 {memory}"));
+    let mut listed = full.clone();
+    listed.memory.put_key(Slice::Keys, 95, &ZERO_KEY);
+    let line = format!("10 {}", listed.memory.words().join(" "));
+    says(tally, "2 N listed, 10", &hand_over_request(&listed, &ZERO_KEY), &line);
+    let both = exchange_request(&full, &listed);
+    says(tally, "2 N listed in both", &both, &format!("0 0 96 96 {memory} {}", &line["10 ".len()..]));
+
+    let mut more = full.clone();
+    more.listed = 97;
+    refused_for(tally, &more, Refusal::OverListed);
+    refused_for(tally, &with_records(full.clone(), 49, 47), Refusal::OverHanded);
+    refused_for(tally, &with_records(full.clone(), 47, 49), Refusal::OverPeeled);
+    let mut more = full;
+    more.memory.put(Slice::Flows, 47, 2);
+    refused_for(tally, &more, Refusal::OverPeeled);
+    last_flow(tally);
+}
+
+fn refused_for(tally: &mut Tally, session: &LentSession, reason: Refusal) {
+    tally.equal("the reason for 8", session.reasons(), vec![reason]);
+    let line = format!("8 {}", session.memory.words().join(" "));
+    for op in [REPORT, SETTLE] {
+        says(tally, "one more is 8", &request_on(op, session), &line);
+    }
+    says(tally, "one more is 8", &hand_over_request(session, &ZERO_KEY), &line);
+}
+
+/// Beside the two cells of a flow at most 46 are peeled, so 95 are listed when it has peeled too, and 94 when it was
+/// handed over. With 47 peeled one of its cells is empty, and that is damage.
+fn last_flow(tally: &mut Tally) {
+    let session = with_records(opened(), 48, 46);
+    let mut settled = with_records(lent(HEADER, 0, &words(&[])), 48, 46);
+    settled.memory.put(Slice::Counts, 94, 1);
+    settled.memory.put(Slice::Flags, 94, 1);
+    let line = format!("0 95 {}", settled.memory.words().join(" "));
+    says(tally, "the last peel", &request_on(SETTLE, &session), &line);
+    let line = format!("12 {}", session.memory.words().join(" "));
+    says(tally, "N handed", &hand_over_request(&session, &ZERO_KEY), &line);
+
+    let session = with_records(opened(), 47, 46);
+    let [packets, unknown] = [in_both_cells(Slice::Packets, "00000001"), in_both_cells(Slice::Unknowns, "0001")];
+    let positions = in_both_cells(Slice::Positions, "005d");
+    let mut handed = with_records(lent(HEADER, 0, &words(&[packets, unknown, positions].concat())), 47, 46);
+    handed.memory.put(Slice::Flags, 93, 2);
+    let line = format!("0 94 {}", handed.memory.words().join(" "));
+    says(tally, "the last hand-over", &hand_over_request(&session, &ZERO_KEY), &line);
+
+    let mut damaged = with_records(opened(), 48, 47);
+    damaged.memory.put(Slice::Flows, 33, 0);
+    damaged.memory.put(Slice::Marks, 0, 1 << 13);
+    let line = format!("14 95 13 {}", damaged.memory.words().join(" "));
+    says(tally, "the last record", &request_on(SETTLE, &damaged), &line);
+    refused_for(tally, &with_records(opened(), 48, 47), Refusal::OverPeeled);
 }

@@ -1,4 +1,4 @@
-//! One peel alone: for any marks, right or wrong, and where the list is full.
+//! One peel alone: for any marks, right or wrong, and up to the last record of the list.
 
 use crate::engine::{Damage, Engine, Step};
 use crate::marked::Marked;
@@ -43,9 +43,6 @@ fn peel_as_written<P: Placement>(state: &mut Marked, placement: &P) -> Result<St
     let key = state.table.cells[cell].flow_xor;
     let places = placement.places(&key);
     let position = state.table.list.len();
-    if position == 2 * n {
-        return Err(Damage { refusal: Refusal::ListFull, cell });
-    }
     if state.table.list.iter().any(|record| record.key == key) {
         return Err(Damage { refusal: Refusal::PeelListed, cell });
     }
@@ -67,27 +64,33 @@ fn peel_as_written<P: Placement>(state: &mut Marked, placement: &P) -> Result<St
     Ok(Step::Done)
 }
 
-/// 13 goes before 14 and needs a mark. The wrong mark's key has empty cells, which 14 would name.
-pub fn full_list(tally: &mut Tally) {
+/// A peel asks for room in the list only where a cell is marked. With 2 N flows listed and no mark, it does nothing; with
+/// one fewer, a wrong mark leads it to 14, or into the last record.
+pub fn last_record(tally: &mut Tally) {
     let placement = Chosen::random(&mut Random::new(1));
     let n = placement.cells();
     let mut full = Marked::new(&placement, vec![Cell::default(); n]);
     full.table.list = full_records(2 * n, n);
+    let before = full.clone();
     let mut aid = full.check(&placement).expect("2 N flows are a session");
     tally.equal("full list, no mark", full.peel(&placement, &mut aid), Ok(Step::NothingToDo));
-    full.marks.put(2, true);
-    let before = full.clone();
-    let damage = Damage { refusal: Refusal::ListFull, cell: 2 };
-    tally.equal("full list", full.peel(&placement, &mut aid), Err(damage));
-    tally.equal("full list, settling", full.settle(&placement, &mut aid), Err(damage));
+    tally.equal("full list, settling", full.settle(&placement, &mut aid), Ok(()));
     tally.holds("full list kept", full == before);
 
     let mut roomy = Marked::new(&placement, vec![Cell::default(); n]);
     roomy.table.list = full_records(2 * n - 1, n);
     let mut aid = roomy.check(&placement).expect("a session");
     roomy.marks.put(2, true);
+    let before = roomy.clone();
     let damage = Damage { refusal: Refusal::PeelEmptyCell, cell: 2 };
-    tally.equal("room for one", roomy.peel(&placement, &mut aid), Err(damage));
+    tally.equal("room for one, empty cells", roomy.peel(&placement, &mut aid), Err(damage));
+    tally.holds("room for one, kept", roomy == before);
+    roomy.table.cells.iter_mut().for_each(|cell| cell.flow_count = 2);
+    let mut wanted = roomy.clone();
+    let answer = peel_as_written(&mut wanted, &placement);
+    tally.equal("room for one", roomy.peel(&placement, &mut aid), answer);
+    tally.equal("the last record is written", (answer, roomy.table.list.len()), (Ok(Step::Done), 2 * n));
+    tally.holds("state after the last record", roomy == wanted);
 }
 
 /// Known records with keys of their own that no other test uses.

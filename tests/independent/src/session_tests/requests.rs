@@ -4,14 +4,14 @@ use std::collections::BTreeSet;
 
 use crate::answer::Answer;
 use crate::counters::key_of;
-use crate::expected::expected_session_kinds;
+use crate::expected::{expected_call_kinds, expected_session_kinds};
 use crate::flowsets::{damage, encode, flows_at, random_flow, random_flows, random_header, Flowset};
 use crate::fresh::Fresh;
-use crate::generate::session_requests;
+use crate::generate::{calls::call_requests, session_requests};
 use crate::image::Header;
 use crate::key::KeyBytes;
 use crate::lent::{right_lengths, Lent, SLICES};
-use crate::lent_session::LentSession;
+use crate::lent_session::{LentSession, PAST};
 use crate::marked::Marked;
 use crate::random::Random;
 use crate::request::{parse_stream, write_stream, Request, REPORT, SETTLE};
@@ -47,12 +47,29 @@ pub fn generated(tally: &mut Tally) {
         }
         let missing: Vec<String> = expected_session_kinds().into_iter().filter(|kind| !met.contains(kind)).collect();
         tally.equal("kinds that a stream misses", missing, vec![]);
+        none_too_long(tally, &met);
         let mut stream = Vec::new();
         write_stream(&requests, &mut stream).expect("writing to memory");
         tally.holds("below 12 MB", stream.len() < 12_000_000);
         tally.holds("payloads that there is room for", requests.iter().all(|request| request.payload.len() <= 262_144));
         tally.holds("stream read back", parse_stream(&stream) == Some(requests));
     }
+}
+
+/// A stream for the library's calls, steps on a session among them, meets all that it must.
+pub fn for_calls(tally: &mut Tally) {
+    let requests = call_requests(1, 1_000);
+    let met: BTreeSet<String> = requests.iter().flat_map(|request| crate::answer::answer(request).kinds).collect();
+    let missing: Vec<String> = expected_call_kinds().into_iter().filter(|kind| !met.contains(kind)).collect();
+    tally.equal("kinds that a stream of calls misses", missing, vec![]);
+    none_too_long(tally, &met);
+}
+
+/// No call makes a list of more than 2 N - k + 1, and no hand-over one of more than 2 N - k.
+fn none_too_long(tally: &mut Tally, met: &BTreeSet<String>) {
+    tally.holds("no list is longer", !met.iter().any(|kind| kind.ends_with(PAST)));
+    let handed = "hand-over 0 grown to 2 N - k + 1 listed";
+    tally.holds("no hand-over makes one as long", !met.iter().any(|kind| kind.ends_with(handed)));
 }
 
 /// Calls one after the other, each on the memory that the line before shows, beside a session that stays in the engine.

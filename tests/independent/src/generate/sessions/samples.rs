@@ -87,7 +87,7 @@ impl Sample {
         LentSession::of(&self.session)
     }
 
-    fn n(&self) -> usize {
+    pub fn n(&self) -> usize {
         self.session.header.sizes.cells()
     }
 

@@ -1,6 +1,7 @@
 //! Hand-overs, settlings and reports in any order on one session.
 
 use super::faults::{dress, fault_of_turn, faulty};
+use super::longest;
 use super::samples::{stranger, Family, Sample};
 use super::tables::Spoiled;
 use crate::counters::key_of;
@@ -23,9 +24,11 @@ const FAMILIES: [Family; 9] = [
     Family::Settled,
 ];
 
-/// Of ten, one is no session, one has room for one hand-over only, one has steps that do not fit the protocol.
+/// Of ten, one has a list as long as it gets, one is no session, one has room for one hand-over only, one has steps that
+/// do not fit the protocol.
 pub fn request(random: &mut Random, turn: usize) -> Request {
     match turn % 10 {
+        1 => longest::sequence(random, turn / 10),
         3 => {
             let (session, key) = faulty(random, fault_of_turn(turn / 10));
             sequence_request(&session, &[Step::Settle, Step::HandOver(key), Step::Report])

@@ -1,8 +1,11 @@
 //! Flowsets for sessions: clean, with flows that the filter missed, or spoiled before they are sealed.
 
+use std::collections::BTreeMap;
+
 use crate::bytes::{put_u16, put_u32, u32_at};
+use crate::counters::key_of;
 use crate::flow;
-use crate::flowsets::{damage, encode, encode_into, flows_at, random_flows, shuffle, Flowset};
+use crate::flowsets::{damage, encode, encode_into, flows_at, random_flow, random_flows, shuffle, Flowset};
 use crate::generate::any_sizes;
 use crate::image::Header;
 use crate::ipv4::Ipv4;
@@ -101,6 +104,48 @@ pub fn spoiled(random: &mut Random, spoiled: Spoiled) -> Table {
     let mut table = clean(random, (25, 40));
     spoil(&mut table.flowset, spoiled, random);
     table
+}
+
+/// 2 N - k + 1 flows in N cells. Every cell has one of the first N and one of the others at least, so nothing peels before
+/// the first N are taken out. Then all others do: each has a cell that none before it has, and the last one peels first.
+pub fn longest(random: &mut Random, header: Header) -> Table {
+    loop {
+        let others = covering(random, header, |new| new == 1);
+        let mut flows = covering(random, header, |new| new > 0);
+        flows.resize_with(header.sizes.cells(), || random_flow(random));
+        flows.extend(others);
+        let table = of_flows(random, header, flows);
+        if table.flowset.clean {
+            return table;
+        }
+    }
+}
+
+/// Flows that together have every cell; `fits` says how many new ones each may add to those before it.
+fn covering(random: &mut Random, Header { sizes, salt, .. }: Header, fits: impl Fn(usize) -> bool) -> Vec<Ipv4> {
+    let mut covered = vec![false; sizes.cells()];
+    let mut flows = Vec::new();
+    while covered.contains(&false) {
+        let flow = random_flow(random);
+        let places = flow::cells(sizes, salt, &key_of(&flow));
+        let new = places.iter().filter(|&&place| !covered[place]).count();
+        if flows.is_empty() || fits(new) {
+            places.into_iter().for_each(|place| covered[place] = true);
+            flows.push(flow);
+        }
+    }
+    flows
+}
+
+/// Two flows that have the same cells.
+pub fn sharing_cells(random: &mut Random, Header { sizes, salt, .. }: Header) -> Vec<Ipv4> {
+    let mut flows = BTreeMap::new();
+    loop {
+        let flow = random_flow(random);
+        if let Some(other) = flows.insert(flow::cells(sizes, salt, &key_of(&flow)), flow.clone()) {
+            return vec![flow, other];
+        }
+    }
 }
 
 /// In part 0 the lowest cells stand: what is spoiled there is met before the flow leaves by another cell.
