@@ -14,7 +14,7 @@ pub is-ready-determined : Determined _ is-ready-kinds.ps is-ready-kinds.r is-rea
 is-ready-determined κs a p z z′ ws ws′ e e′ = (e ∙ sym e′, refl)
 
 pub count-step-determined : Determined _ count-step-kinds.ps count-step-kinds.r count-step.Asked count-step.Learnt
-count-step-determined κs a p z z′ ws ws′ e e′ = let f = e ∙ sym e′ in (ap (λ (x : Counted). x .answer) f, both refl (both refl (both refl (both refl (both refl (both (ap (λ (x : Counted). x .cells .packets) f) (both (ap (λ (x : Counted). x .cells .unknowns) f) (both (ap (λ (x : Counted). x .cells .positions) f) (both (ap (λ (x : Counted). x .cells .ready) f) (both refl (both (ap (λ (x : Counted). x .list .counts) f) (both (ap (λ (x : Counted). x .list .flags) f) refl))))))))))))
+count-step-determined κs a p z z′ ws ws′ e e′ = let f = e ∙ sym e′ in (ap (λ (x : Counted). x .answer) f, both refl (both refl (both refl (both refl (both refl (both refl (both (ap (λ (x : Counted). x .cells .packets) f) (both (ap (λ (x : Counted). x .cells .unknowns) f) (both (ap (λ (x : Counted). x .cells .positions) f) (both (ap (λ (x : Counted). x .cells .ready) f) (both refl (both (ap (λ (x : Counted). x .list .counts) f) (both (ap (λ (x : Counted). x .list .flags) f) refl)))))))))))))
 
 pub count-all-determined : Determined _ count-all-kinds.ps count-all-kinds.r count-all.Asked count-all.Learnt
-count-all-determined κs a p z z′ ws ws′ e e′ = let f = e ∙ sym e′ in (ap (λ (x : Ended). x .answer) f, both refl (both refl (both refl (both refl (both refl (both (ap (λ (x : Ended). x .packets) f) (both (ap (λ (x : Ended). x .unknowns) f) (both (ap (λ (x : Ended). x .positions) f) (both refl (both (ap (λ (x : Ended). x .list .counts) f) (both (ap (λ (x : Ended). x .list .flags) f) refl)))))))))))
+count-all-determined κs a p z z′ ws ws′ e e′ = let f = e ∙ sym e′ in (ap (λ (x : Ended). x .answer) f, both refl (both refl (both refl (both refl (both refl (both refl (both (ap (λ (x : Ended). x .packets) f) (both (ap (λ (x : Ended). x .unknowns) f) (both (ap (λ (x : Ended). x .positions) f) (both refl (both (ap (λ (x : Ended). x .list .counts) f) (both (ap (λ (x : Ended). x .list .flags) f) refl))))))))))))

@@ -4,6 +4,7 @@ ghost use mathlib.Core.Path.{_≡_};
 ghost use Prim.Native.Nat.{_+_, _-_, _*_, _<_, _≤_};
 ghost use lib.ListN.{length, getD, replicate};
 ghost use Rattle.hash.specs.Places.{Within};
+ghost use Rattle.hash.specs.Salted.{afterSalt};
 ghost use Rattle.list.specs.Records.{records};
 ghost use Rattle.counting.specs.Book.{
   book,
@@ -17,6 +18,7 @@ ghost use Rattle.counting.specs.Book.{
 };
 ghost use Rattle.counting.specs.Count.{Fits, counted, countOf, stopAt, ended, countsOf};
 use hash::Cells;
+use hash::Salted;
 use layout::Layout;
 use layout::Sizes;
 
@@ -152,6 +154,7 @@ pub fn count_step(
     l: Layout,
     z: Sizes,
     salt: u32,
+    h: Salted,
     n: usize,
     flows: &[u16],
     packets: &mut [u32],
@@ -163,7 +166,7 @@ pub fn count_step(
     flags: &mut [u8],
 ) -> Step
     requires { ⌜ Fits l z n (now flows) (book (now packets) (now unknowns) (now positions) (now ready))
-        (records (now keys) (now counts) (now flags)) ⌝ }
+        (records (now keys) (now counts) (now flags)) × (h ≡ afterSalt salt) ⌝ }
     ensures { λ r. ⌜ counted r (book (now (packets .exit)) (now (unknowns .exit)) (now (positions .exit)) (now (ready .exit)))
         (records (now (keys .entry)) (now (counts .exit)) (now (flags .exit)))
         ≡ countOf l z salt n (now (flows .entry))
@@ -186,7 +189,7 @@ pub fn count_step(
     }
     let a = i * l.key;
     let e = a + l.key;
-    let at = hash::cells_of(l, z, salt, &keys[a..e]);
+    let at = hash::cells_of(l, z, salt, h, &keys[a..e]);
     if any_less(at, z.k, packets, v) {
         return Step::Damaged(c);
     }
@@ -227,6 +230,7 @@ pub fn count_all(
     l: Layout,
     z: Sizes,
     salt: u32,
+    h: Salted,
     n: usize,
     flows: &[u16],
     packets: &mut [u32],
@@ -237,7 +241,7 @@ pub fn count_all(
     flags: &mut [u8],
 ) -> Stop
     requires { ⌜ Fits l z n (now flows) (book (now packets) (now unknowns) (now positions) (replicate 24 0))
-        (records (now keys) (now counts) (now flags)) ⌝ }
+        (records (now keys) (now counts) (now flags)) × (h ≡ afterSalt salt) ⌝ }
     ensures { λ r. ⌜ ended r (now (packets .exit)) (now (unknowns .exit)) (now (positions .exit))
         (records (now (keys .entry)) (now (counts .exit)) (now (flags .exit)))
         ≡ countsOf l z salt n (now (flows .entry)) (now (packets .entry)) (now (unknowns .entry)) (now (positions .entry))
@@ -251,6 +255,7 @@ pub fn count_all(
             l,
             z,
             salt,
+            h,
             n,
             flows,
             packets,

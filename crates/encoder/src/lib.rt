@@ -97,8 +97,9 @@ pub fn take_key(
     ensures { λ r. ⌜ taking r (now (filter .exit)) (now (cells .exit))
         ≡ offerKey l z salt (now (key .entry)) (now (filter .entry)) (now (cells .entry)) ⌝ }
 {
-    let bits = hash::bits_of(z, salt, key);
-    let at = hash::cells_of(l, z, salt, key);
+    let h = hash::after_salt(salt);
+    let bits = hash::bits_of(z, salt, h, key);
+    let at = hash::cells_of(l, z, salt, h, key);
     let new = filter::any_clear(filter, bits, z.kf);
     if any_full(l, cells, at, z.k, new) {
         return Taken::Full;

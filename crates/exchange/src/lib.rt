@@ -4,6 +4,7 @@ ghost use mathlib.Core.List.{_++_};
 ghost use mathlib.Core.Path.{_≡_};
 ghost use lib.ListN.{replicate};
 ghost use Rattle.layout.specs.Sizes.{Lays, ipv4Layout};
+ghost use Rattle.hash.specs.Salted.{afterSalt};
 ghost use Rattle.list.specs.Records.{records};
 ghost use Rattle.table.specs.Table.{tab};
 ghost use Rattle.room.specs.Memory.{memory};
@@ -21,6 +22,7 @@ ghost use Rattle.exchange.specs.Exchange.{
 };
 use ending::Ending;
 use ending::Round;
+use hash::Salted;
 use layout::Layout;
 use parts::Place;
 use room::Session;
@@ -110,6 +112,8 @@ fn test(
     l: Layout,
     s: Session,
     t: Session,
+    h: Salted,
+    g: Salted,
     filter: &[u8],
     xors: &[u8],
     flows: &[u16],
@@ -122,7 +126,7 @@ fn test(
     flags: &[u8],
     seen: &mut [u16],
 ) -> Tested
-    requires { ⌜ Lays l × (now seen ≡ replicate 22528 0) ⌝ }
+    requires { ⌜ Lays l × (now seen ≡ replicate 22528 0) × (h ≡ afterSalt (s .salt)) × (g ≡ afterSalt (t .salt)) ⌝ }
     ensures { λ r. ⌜ (r ≡ exchangeTest l s t (memory (now (filter .entry))
         (tab (now (xors .entry)) (now (flows .entry)) (now (unknowns .entry)) (now (positions .entry)) (now (marks .entry)))
         (now (packets .entry)) (records (now (keys .entry)) (now (counts .entry)) (now (flags .entry)))))
@@ -163,6 +167,7 @@ fn test(
         l,
         y,
         s.salt,
+        h,
         o,
         p,
         s.listed,
@@ -182,6 +187,7 @@ fn test(
         l,
         z,
         t.salt,
+        g,
         p,
         e,
         t.listed,
@@ -253,10 +259,14 @@ pub fn exchange_in(
         (now (packets .entry)) (records (now (keys .entry)) (now (counts .entry)) (now (flags .entry)))) ⌝ }
 {
     let mut seen = [0u16; 22528];
+    let h = hash::after_salt(s.salt);
+    let g = hash::after_salt(t.salt);
     match test(
         l,
         s,
         t,
+        h,
+        g,
         filter,
         xors,
         flows,
@@ -280,6 +290,8 @@ pub fn exchange_in(
         l,
         s,
         t,
+        h,
+        g,
         p,
         e,
         filter,

@@ -13,7 +13,7 @@ use Rattle.handing.specs.Hand.{Handing}
 pub hand-determined : Determined _ hand-kinds.ps hand-kinds.r hand.Asked hand.Learnt
 hand-determined κs a p z z′ ws ws′ e e′ = let f = e ∙ sym e′ in (
   ap (λ (x : Handing). x .answer) f,
-  both refl (both refl (both refl (both refl (both refl (both refl (both refl
+  both refl (both refl (both refl (both refl (both refl (both refl (both refl (both refl
       (both (ap (λ (x : Handing). x .table .xors) f)
       (both (ap (λ (x : Handing). x .table .flows) f)
       (both (ap (λ (x : Handing). x .table .unknowns) f)
@@ -21,7 +21,7 @@ hand-determined κs a p z z′ ws ws′ e e′ = let f = e ∙ sym e′ in (
       (both (ap (λ (x : Handing). x .table .marks) f)
       (both (ap (λ (x : Handing). x .list .keys) f)
       (both (ap (λ (x : Handing). x .list .counts) f)
-      (both (ap (λ (x : Handing). x .list .flags) f) (both (ap (λ (x : Handing). x .seen) f) refl))))))))))))))),
+      (both (ap (λ (x : Handing). x .list .flags) f) (both (ap (λ (x : Handing). x .seen) f) refl)))))))))))))))),
 )
 
 pub taken-by-determined : Determined _ taken-by-kinds.ps taken-by-kinds.r taken-by.Asked taken-by.Learnt

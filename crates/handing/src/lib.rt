@@ -5,11 +5,13 @@ ghost use lib.ListN.{length};
 ghost use Rattle.laws.specs.Upto.{listUpto};
 ghost use Rattle.layout.specs.Sizes.{Lays, Ranged, tableCells, filterBytes};
 ghost use Rattle.hash.specs.Places.{cellOf};
+ghost use Rattle.hash.specs.Salted.{afterSalt};
 ghost use Rattle.list.specs.Records.{records};
 ghost use Rattle.table.specs.Table.{tab};
 ghost use Rattle.found.specs.Seen.{Covers};
 ghost use Rattle.handing.specs.Hand.{answerOf, handing, handOf, Hands, takenBy, twelveBy};
 use hash::Cells;
+use hash::Salted;
 use layout::Layout;
 use layout::Sizes;
 
@@ -27,6 +29,7 @@ fn answer(
     l: Layout,
     z: Sizes,
     salt: u32,
+    h: Salted,
     n: usize,
     handed: usize,
     at: Cells,
@@ -38,10 +41,10 @@ fn answer(
 ) -> Handed
     requires { ⌜ Lays l × Ranged z × (at .at ≡ listUpto 4 (cellOf l z salt (now key))) × (length (now key) ≡ l .key)
         × (length (now filter) ≡ filterBytes z) × (length (now flows) ≡ tableCells l z) × (n * l .key ≤ length (now keys))
-        × (n ≤ 3072) × Covers l z salt n (now keys) (now seen) ⌝ }
+        × (n ≤ 3072) × Covers l z salt n (now keys) (now seen) × (h ≡ afterSalt salt) ⌝ }
     ensures { λ r. ⌜ r ≡ answerOf l z salt n handed (now (filter .entry)) (now (flows .entry)) (now (keys .entry)) (now (key .entry)) ⌝ }
 {
-    let bits = hash::bits_of(z, salt, key);
+    let bits = hash::bits_of(z, salt, h, key);
     if filter::any_clear(filter, bits, z.kf) {
         return Handed::NotInFilter;
     }
@@ -62,6 +65,7 @@ pub fn hand(
     l: Layout,
     z: Sizes,
     salt: u32,
+    h: Salted,
     n: usize,
     handed: usize,
     key: &[u8],
@@ -77,15 +81,15 @@ pub fn hand(
     seen: &mut [u16],
 ) -> Handed
     requires { ⌜ Hands l z salt n handed (now key) (now filter) (tab (now xors) (now flows) (now unknowns) (now positions) (now marks))
-        (records (now keys) (now counts) (now flags)) (now seen) ⌝ }
+        (records (now keys) (now counts) (now flags)) (now seen) × (h ≡ afterSalt salt) ⌝ }
     ensures { λ r. ⌜ handing r (tab (now (xors .exit)) (now (flows .exit)) (now (unknowns .exit)) (now (positions .exit)) (now (marks .exit)))
         (records (now (keys .exit)) (now (counts .exit)) (now (flags .exit))) (now (seen .exit))
         ≡ handOf l z salt n (now (key .entry)) (now (filter .entry))
         (tab (now (xors .entry)) (now (flows .entry)) (now (unknowns .entry)) (now (positions .entry)) (now (marks .entry)))
         (records (now (keys .entry)) (now (counts .entry)) (now (flags .entry))) (now (seen .entry)) ⌝ }
 {
-    let at = hash::cells_of(l, z, salt, key);
-    let a = answer(l, z, salt, n, handed, at, key, filter, flows, keys, seen);
+    let at = hash::cells_of(l, z, salt, h, key);
+    let a = answer(l, z, salt, h, n, handed, at, key, filter, flows, keys, seen);
     let Handed::Taken = a else {
         return a;
     };
@@ -95,6 +99,7 @@ pub fn hand(
         l,
         z,
         salt,
+        h,
         at,
         key,
         n as u16,

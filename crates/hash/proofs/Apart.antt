@@ -3,7 +3,7 @@ use mathlib.Core.Path.{_≡_, refl, ap, _∙_}
 use mathlib.Core.Bool.{true}
 use mathlib.Core.List.{List, [], _∷_, _++_}
 use Prim.Native.Nat.{ℕ, _+_, _-_, _*_, _<_, _≤_}
-use native.Mathlib.Nat.{mul-le-mul, add-mul, one-mul, zero-mul, zero-add}
+use native.Mathlib.Nat.{mul-le-mul, add-mul}
 use native.Mathlib.Decide.{decLt}
 use native.Mathlib.Omega.{arith}
 use lib.Dec.{eqb}
@@ -21,9 +21,9 @@ use Rattle.hash.specs.Places.{cellOf, bitOf, bitsOf, hasCell, cellRole, 
 use Rattle.hash.proofs.Chain.{hash-lt, place-lt}
 
 -- the cell that the code works out from one chain of the hash
-pub cell-chosen : (l : Layout) (z : Sizes) (salt i : ℕ) (key : List ℕ) {s h p : ℕ} → s ≡ partCells l z → h ≡ hashOf salt cellRole i key
-    → p ≡ place h s
-    → i * s + p ≡ cellOf l z salt key i
+pub cell-chosen : (l : Layout) (z : Sizes) (salt i : ℕ) (key : List ℕ) {s h c : ℕ} → s ≡ partCells l z → h ≡ hashOf salt cellRole i key
+    → c ≡ i * s + place h s
+    → c ≡ cellOf l z salt key i
 unfolding cellOf
 cell-chosen l z salt i key e f g = rw (g, f, e)
 
@@ -85,18 +85,15 @@ module _ (z : Sizes) (r : Ranged z) (salt : ℕ) (key : List ℕ) where
   ]
 
 -- the four places as the code works them out, from four hashes
-pub cells-four : (l : Layout) (z : Sizes) (salt : ℕ) (key : List ℕ) {s a b c d p₀ p₁ p₂ p₃ : ℕ} → s ≡ partCells l z
+pub cells-four : (l : Layout) (z : Sizes) (salt : ℕ) (key : List ℕ) {s a b c d c₀ c₁ c₂ c₃ : ℕ} → s ≡ partCells l z
     → (a ∷ b ∷ c ∷ d ∷ []) ≡ listUpto 4 (λ i. hashOf salt cellRole (0 + i) key)
-    → p₀ ≡ place a s → p₁ ≡ place b s → p₂ ≡ place c s → p₃ ≡ place d s
-    → (p₀ ∷ (s + p₁) ∷ (2 * s + p₂) ∷ (3 * s + p₃) ∷ []) ≡ listUpto 4 (cellOf l z salt key)
-unfolding cellOf
-cells-four l z salt key {s = s} e hs q₀ q₁ q₂ q₃ =
+    → c₀ ≡ 0 * s + place a s → c₁ ≡ 1 * s + place b s → c₂ ≡ 2 * s + place c s → c₃ ≡ 3 * s + place d s
+    → (c₀ ∷ c₁ ∷ c₂ ∷ c₃ ∷ []) ≡ listUpto 4 (cellOf l z salt key)
+cells-four l z salt key e hs q₀ q₁ q₂ q₃ =
     let h = four-are (λ i. hashOf salt cellRole (0 + i) key) hs in
     list-four (cellOf l z salt key)
-    (rw (← e, ← h .0, ← q₀, zero-mul, zero-add))
-    (rw (← e, ← h .1, ← q₁, one-mul))
-    (rw (← e, ← h .2, ← q₂))
-    (rw (← e, ← h .3, ← q₃))
+    (cell-chosen l z salt 0 key e (h .0) q₀) (cell-chosen l z salt 1 key e (h .1) q₁)
+    (cell-chosen l z salt 2 key e (h .2) q₂) (cell-chosen l z salt 3 key e (h .3) q₃)
 
 -- the first k places of a key, as the code keeps them, are cells
 pub places-within : (l : Layout) (z : Sizes) (lays : Lays l) (r : Ranged z) (salt : ℕ) (key : List ℕ) {at : List ℕ} → at ≡ listUpto 4

@@ -11,8 +11,11 @@ use lib.Bits.{bitXor}
 use lib.Pow.{pow-pos}
 use Rattle.laws.specs.BigEndian.{bytesOf}
 use Rattle.laws.specs.Upto.{listUpto}
-use Rattle.hash.specs.Fnv.{step, absorb, basis, fnv, hashOf, seeded, place}
+use Rattle.hash.specs.Fnv.{step, absorb, basis, fnv, hashOf, place}
+use Rattle.hash.specs.declared.Salted.{Salted}
 use Rattle.hash.specs.Lanes.{absorbAll}
+use Rattle.hash.specs.Places.{filterRole, cellRole}
+use Rattle.hash.specs.Salted.{afterRole, hashAfter, afterSalt}
 
 -- a list is absorbed part by part
 pub absorb-append : (s t : List ℕ) (h : ℕ) → absorb h (s ++ t) ≡ absorb (absorb h s) t
@@ -20,11 +23,11 @@ unfolding absorb
 absorb-append [] t h = refl
 absorb-append (b ∷ s) t h = absorb-append s t (step h b)
 
--- the key is absorbed after salt, role and index
-pub hash-seeded : (salt role i : ℕ) (key : List ℕ) → absorb (seeded salt role i) key ≡ hashOf salt role i key
-unfolding hashOf seeded absorb
-hash-seeded salt role i key =
-    ap (λ h. absorb h key) (absorb-append (bytesOf 4 salt) (role ∷ i ∷ []) _) ∙ sym (absorb-append (bytesOf 4 salt) (role ∷ i ∷ key) _)
+-- salt and role once, then the index, then the key: 01's hash
+pub hash-after : (salt role i : ℕ) (key : List ℕ) → hashAfter (afterRole salt role) i key ≡ hashOf salt role i key
+unfolding hashOf hashAfter afterRole absorb
+hash-after salt role i key =
+    ap (λ h. absorb h (i ∷ key)) (absorb-append (bytesOf 4 salt) (role ∷ []) basis) ∙ sym (absorb-append (bytesOf 4 salt) (role ∷ i ∷ key) basis)
 
 -- one byte more of a list
 pub absorb-more : (h : ℕ) (s : List ℕ) (i : ℕ) → i < length s → absorb h (drop i s) ≡ absorb (step h (getD s i 0)) (drop (i + 1) s)
@@ -92,21 +95,47 @@ unfolding absorb bytesOf
 absorb-word h x p q r s = rw (s, r, q, p)
     (ap (λ y. step (step (step (step h (x / 2 ^ 24 % 256)) (x / 2 ^ 16 % 256)) (x / 2 ^ 8 % 256)) (y % 256)) (sym (div-one x)))
 
--- salt, role and index, one after the other
-pub seeded-steps : (salt role i : ℕ) {a b c : ℕ} → a ≡ absorb basis (bytesOf 4 salt) → b ≡ step a role → c ≡ step b i → c ≡ seeded salt role i
-unfolding absorb seeded
-seeded-steps salt role i p q r = rw (r, q, p) (sym (absorb-append (bytesOf 4 salt) (role ∷ i ∷ []) basis))
+-- salt and role, one after the other
+pub role-after : (salt role : ℕ) {a b : ℕ} → a ≡ absorb basis (bytesOf 4 salt) → b ≡ step a role → b ≡ afterRole salt role
+unfolding absorb afterRole
+role-after salt role p q = rw (q, p) (sym (absorb-append (bytesOf 4 salt) (role ∷ []) basis))
 
--- four hashes from four seeded chains
-pub all-hashed : (salt role first : ℕ) (key : List ℕ) {hs : List ℕ} → hs ≡ listUpto 4 (λ i. seeded salt role (first + i))
-    → absorbAll hs key ≡ listUpto 4 (λ i. hashOf salt role (first + i) key)
-unfolding listUpto absorbAll
-all-hashed salt role first key e =
+-- the two states that are handed on
+pub salted-filter : (salt : ℕ) {h : Salted} → h ≡ afterSalt salt → h .filter .state ≡ afterRole salt filterRole
+unfolding afterSalt
+salted-filter salt e = ap (λ x. x .filter .state) e
+
+pub salted-cells : (salt : ℕ) {h : Salted} → h ≡ afterSalt salt → h .cells .state ≡ afterRole salt cellRole
+unfolding afterSalt
+salted-cells salt e = ap (λ x. x .cells .state) e
+
+pub two-states : (salt : ℕ) {h : Salted} → h .filter .state ≡ afterRole salt filterRole → h .cells .state ≡ afterRole salt cellRole
+    → h ≡ afterSalt salt
+unfolding afterSalt
+two-states salt p q = λ i. record { filter = record { state = p i }; cells = record { state = q i } }
+
+-- one chain from there: the index, then the key
+pub chain-after : (salt role i : ℕ) (key : List ℕ) {h a b : ℕ} → h ≡ afterRole salt role → a ≡ step h i → b ≡ absorb a key → b ≡ hashOf salt role i key
+unfolding hashAfter absorb
+chain-after salt role i key e p q = rw (q, p, e) (hash-after salt role i key)
+
+-- four chains, each with its index, end at four hashes
+pub all-hashed : (h first : ℕ) (key : List ℕ) {hs : List ℕ} → hs ≡ listUpto 4 (λ i. step h (first + i))
+    → absorbAll hs key ≡ listUpto 4 (λ i. hashAfter h (first + i) key)
+unfolding listUpto absorbAll hashAfter absorb
+all-hashed h first key e = ap (λ hs. absorbAll hs key) e
+
+-- which are 01's, from the state after salt and role
+pub all-after : (salt role first : ℕ) (key : List ℕ) {h : ℕ} {hs : List ℕ} → h ≡ afterRole salt role
+    → hs ≡ listUpto 4 (λ i. hashAfter h (first + i) key)
+    → hs ≡ listUpto 4 (λ i. hashOf salt role (first + i) key)
+unfolding listUpto
+all-after salt role first key e f =
     rw (
+      f,
       e,
-      hash-seeded salt role (first + 0) key,
-      hash-seeded salt role (first + 1) key,
-      hash-seeded salt role (first + 2) key,
-      hash-seeded salt role
-          (first + 3) key,
+      hash-after salt role (first + 0) key,
+      hash-after salt role (first + 1) key,
+      hash-after salt role (first + 2) key,
+      hash-after salt role (first + 3) key,
     )

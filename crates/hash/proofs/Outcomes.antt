@@ -9,8 +9,8 @@ use Rattle.hash.proofs.Fnv.word.Kinds as fnv-word-kinds
 use Rattle.hash.proofs.Fnv.word.Reads as fnv-word
 use Rattle.hash.proofs.Fnv.bytes.Kinds as fnv-bytes-kinds
 use Rattle.hash.proofs.Fnv.bytes.Reads as fnv-bytes
-use Rattle.hash.proofs.Fnv.seeded.Kinds as fnv-seeded-kinds
-use Rattle.hash.proofs.Fnv.seeded.Reads as fnv-seeded
+use Rattle.hash.proofs.after_salt.Kinds as after-salt-kinds
+use Rattle.hash.proofs.after_salt.Reads as after-salt
 use Rattle.hash.proofs.place.Kinds as place-kinds
 use Rattle.hash.proofs.place.Reads as place
 use Rattle.hash.proofs.fnv_of_four.Kinds as four-kinds
@@ -61,8 +61,8 @@ fnv-word-determined κs a p z z′ ws ws′ e e′ = (state-alone z z′ (e ∙ 
 pub fnv-bytes-determined : Determined _ fnv-bytes-kinds.ps fnv-bytes-kinds.r fnv-bytes.Asked fnv-bytes.Learnt
 fnv-bytes-determined κs a p z z′ ws ws′ e e′ = (state-alone z z′ (e ∙ sym e′), refl)
 
-pub fnv-seeded-determined : Determined _ fnv-seeded-kinds.ps fnv-seeded-kinds.r fnv-seeded.Asked fnv-seeded.Learnt
-fnv-seeded-determined κs a p z z′ ws ws′ e e′ = (state-alone z z′ (e ∙ sym e′), refl)
+pub after-salt-determined : Determined _ after-salt-kinds.ps after-salt-kinds.r after-salt.Asked after-salt.Learnt
+after-salt-determined κs a p z z′ ws ws′ e e′ = (e ∙ sym e′, refl)
 
 pub place-determined : Determined _ place-kinds.ps place-kinds.r place.Asked place.Learnt
 place-determined κs a p z z′ ws ws′ e e′ = (e ∙ sym e′, refl)

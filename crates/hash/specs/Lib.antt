@@ -2,3 +2,4 @@
 pub mod Fnv
 pub mod Lanes
 pub mod Places
+pub mod Salted

@@ -1,14 +1,15 @@
 // FNV-1a of 32 bits and the places it chooses: a flow's cells and filter bits. It rests on layout and laws.
 // Four chains, or eight, run beside each other, over one key or over a slice each, since one chain alone waits for its multiply at every byte.
 ghost use mathlib.Core.Path.{_≡_};
-ghost use mathlib.Core.List.{_∷_, [], _++_};
-ghost use Prim.Native.Nat.{_+_, _≤_, _<_};
+ghost use mathlib.Core.List.{_∷_, []};
+ghost use Prim.Native.Nat.{_+_, _*_, _≤_, _<_};
 ghost use lib.ListN.{length};
 ghost use Rattle.laws.specs.BigEndian.{bytesOf};
 ghost use Rattle.laws.specs.Upto.{listUpto};
 ghost use Rattle.layout.specs.Sizes.{Lays, Ranged};
-ghost use Rattle.hash.specs.Fnv.{step, absorb, basis, fnv, hashOf};
+ghost use Rattle.hash.specs.Fnv.{step, absorb, basis, fnv};
 ghost use Rattle.hash.specs.Lanes.{states, absorbAll};
+ghost use Rattle.hash.specs.Salted.{hashAfter, afterSalt};
 ghost use Rattle.hash.specs.Places.{cellOf, bitsOf};
 use layout::Layout;
 use layout::Sizes;
@@ -48,28 +49,14 @@ impl Fnv {
     pub fn bytes(self, s: &[u8]) -> Fnv
         ensures { λ r. ⌜ r .state ≡ absorb (self .state) (now (s .entry)) ⌝ }
     {
-        let mut h = self;
+        let mut f = self;
         let mut i = 0;
         while i < s.len() {
-            h = h.byte(s[i]);
+            f = f.byte(s[i]);
             i += 1;
         }
-        h
+        f
     }
-
-    // The state before the key: salt, role and index absorbed.
-    pub fn seeded(salt: u32, role: u8, index: u8) -> Fnv
-        ensures { λ r. ⌜ r .state ≡ Rattle.hash.specs.Fnv.seeded salt role index ⌝ }
-    {
-        Fnv::new().word(salt).byte(role).byte(index)
-    }
-}
-
-// The place of a hash among n.
-pub fn place(hash: u32, n: u32) -> u32
-    ensures { λ r. ⌜ r ≡ Rattle.hash.specs.Fnv.place hash n ⌝ }
-{
-    ((hash as u64) * (n as u64) / 4294967296) as u32
 }
 
 // Four chains.
@@ -89,19 +76,6 @@ impl Lanes {
             b: Fnv::new(),
             c: Fnv::new(),
             d: Fnv::new(),
-        }
-    }
-
-    // The chains of four indices from `first` on, before the key.
-    fn seeded(salt: u32, role: u8, first: u8) -> Lanes
-        requires { ⌜ first ≤ 4 ⌝ }
-        ensures { λ r. ⌜ states r ≡ listUpto 4 (λ i. Rattle.hash.specs.Fnv.seeded salt role (first + i)) ⌝ }
-    {
-        Lanes {
-            a: Fnv::seeded(salt, role, first),
-            b: Fnv::seeded(salt, role, first + 1),
-            c: Fnv::seeded(salt, role, first + 2),
-            d: Fnv::seeded(salt, role, first + 3),
         }
     }
 
@@ -130,13 +104,13 @@ impl Lanes {
     fn bytes(self, s: &[u8]) -> Lanes
         ensures { λ r. ⌜ states r ≡ absorbAll (states self) (now (s .entry)) ⌝ }
     {
-        let mut h = self;
+        let mut f = self;
         let mut i = 0;
         while i < s.len() {
-            h = h.byte(s[i]);
+            f = f.byte(s[i]);
             i += 1;
         }
-        h
+        f
     }
 }
 
@@ -145,21 +119,53 @@ pub fn fnv_of_four(a: &[u8], b: &[u8], c: &[u8], d: &[u8]) -> Lanes
     requires { ⌜ (length (now b) ≡ length (now a)) × (length (now c) ≡ length (now a)) × (length (now d) ≡ length (now a)) ⌝ }
     ensures { λ r. ⌜ states r ≡ fnv (now (a .entry)) ∷ fnv (now (b .entry)) ∷ fnv (now (c .entry)) ∷ fnv (now (d .entry)) ∷ [] ⌝ }
 {
-    let mut h = Lanes::new();
+    let mut f = Lanes::new();
     let mut i = 0;
     while i < a.len() {
-        h = h.each(a[i], b[i], c[i], d[i]);
+        f = f.each(a[i], b[i], c[i], d[i]);
         i += 1;
     }
-    h
+    f
 }
 
-// The hashes of a key for four indices from `first` on.
-fn hashes(salt: u32, role: u8, first: u8, key: &[u8]) -> Lanes
-    requires { ⌜ first ≤ 4 ⌝ }
-    ensures { λ r. ⌜ states r ≡ listUpto 4 (λ i. hashOf salt role (first + i) (now (key .entry))) ⌝ }
+// ---- places, in the board group's order of work (02 c): salt and role once, then for each place the index, then the key
+
+// The states after salt and role, which a call makes once and hands on: the filter bits' hashes go on from one, the cells' from the other.
+// The salt itself goes beside them for the contracts alone.
+pub struct Salted {
+    pub filter: Fnv,
+    pub cells: Fnv,
+}
+
+pub fn after_salt(salt: u32) -> Salted
+    ensures { λ r. ⌜ r ≡ afterSalt salt ⌝ }
 {
-    Lanes::seeded(salt, role, first).bytes(key)
+    let f = Fnv::new().word(salt);
+    Salted {
+        filter: f.byte(0x46),
+        cells: f.byte(0x43),
+    }
+}
+
+// Then the index: one state goes on as four chains, of the indices from `first` on.
+fn indexed(f: Fnv, first: u8) -> Lanes
+    requires { ⌜ first ≤ 4 ⌝ }
+    ensures { λ r. ⌜ states r ≡ listUpto 4 (λ i. step (f .state) (first + i)) ⌝ }
+{
+    Lanes {
+        a: f.byte(first),
+        b: f.byte(first + 1),
+        c: f.byte(first + 2),
+        d: f.byte(first + 3),
+    }
+}
+
+// Then the key: its hashes for four indices from `first` on.
+fn hashes(f: Fnv, first: u8, key: &[u8]) -> Lanes
+    requires { ⌜ first ≤ 4 ⌝ }
+    ensures { λ r. ⌜ states r ≡ listUpto 4 (λ i. hashAfter (f .state) (first + i) (now (key .entry))) ⌝ }
+{
+    indexed(f, first).bytes(key)
 }
 
 // Eight chains.
@@ -168,13 +174,13 @@ struct Eight {
     high: Lanes,
 }
 
-// The hashes of a key for the indices 0 to 7, in one pass.
-fn eight_hashes(salt: u32, role: u8, key: &[u8]) -> Eight
-    ensures { λ r. ⌜ (states (r .low) ≡ listUpto 4 (λ i. hashOf salt role (0 + i) (now (key .entry))))
-        × (states (r .high) ≡ listUpto 4 (λ i. hashOf salt role (4 + i) (now (key .entry)))) ⌝ }
+// The same for the indices 0 to 7, in one pass.
+fn eight_hashes(f: Fnv, key: &[u8]) -> Eight
+    ensures { λ r. ⌜ (states (r .low) ≡ listUpto 4 (λ i. hashAfter (f .state) (0 + i) (now (key .entry))))
+        × (states (r .high) ≡ listUpto 4 (λ i. hashAfter (f .state) (4 + i) (now (key .entry)))) ⌝ }
 {
-    let mut low = Lanes::seeded(salt, role, 0);
-    let mut high = Lanes::seeded(salt, role, 4);
+    let mut low = indexed(f, 0);
+    let mut high = indexed(f, 4);
     let mut i = 0;
     while i < key.len() {
         let b = key[i];
@@ -185,14 +191,28 @@ fn eight_hashes(salt: u32, role: u8, key: &[u8]) -> Eight
     Eight { low, high }
 }
 
-// The cell that hash i chooses for a key.
-pub fn cell_of(l: Layout, z: Sizes, salt: u32, i: usize, key: &[u8]) -> usize
-    requires { ⌜ Lays l × Ranged z × (i < z .k) ⌝ }
+// The place of a hash among n.
+pub fn place(hash: u32, n: u32) -> u32
+    ensures { λ r. ⌜ r ≡ Rattle.hash.specs.Fnv.place hash n ⌝ }
+{
+    ((hash as u64) * (n as u64) / 4294967296) as u32
+}
+
+// The cell that a hash of index i chooses, s cells to a part.
+fn cell_in(i: usize, s: usize, f: Fnv) -> usize
+    requires { ⌜ (i < 4) × (s ≤ 384) ⌝ }
+    ensures { λ r. ⌜ r ≡ i * s + Rattle.hash.specs.Fnv.place (f .state) s ⌝ }
+{
+    i * s + (place(f.state, s as u32) as usize)
+}
+
+// The one cell that index i chooses for a key.
+pub fn cell_of(l: Layout, z: Sizes, salt: u32, h: Salted, i: usize, key: &[u8]) -> usize
+    requires { ⌜ Lays l × Ranged z × (i < z .k) × (h ≡ afterSalt salt) ⌝ }
     ensures { λ r. ⌜ r ≡ cellOf l z salt (now (key .entry)) i ⌝ }
 {
-    let s = layout::part_cells(l, z);
-    let h = Fnv::seeded(salt, 0x43, i as u8).bytes(key);
-    i * s + (place(h.state, s as u32) as usize)
+    let f = h.cells;
+    cell_in(i, layout::part_cells(l, z), f.byte(i as u8).bytes(key))
 }
 
 // A flow's cells: the first k of four.
@@ -201,19 +221,18 @@ pub struct Cells {
 }
 
 // The cells of a key.
-pub fn cells_of(l: Layout, z: Sizes, salt: u32, key: &[u8]) -> Cells
-    requires { ⌜ Lays l × Ranged z ⌝ }
+pub fn cells_of(l: Layout, z: Sizes, salt: u32, h: Salted, key: &[u8]) -> Cells
+    requires { ⌜ Lays l × Ranged z × (h ≡ afterSalt salt) ⌝ }
     ensures { λ r. ⌜ r .at ≡ listUpto 4 (cellOf l z salt (now (key .entry))) ⌝ }
 {
     let s = layout::part_cells(l, z);
-    let n = s as u32;
-    let h = hashes(salt, 0x43, 0, key);
+    let f = hashes(h.cells, 0, key);
     Cells {
         at: [
-            place(h.a.state, n) as usize,
-            s + (place(h.b.state, n) as usize),
-            2 * s + (place(h.c.state, n) as usize),
-            3 * s + (place(h.d.state, n) as usize),
+            cell_in(0, s, f.a),
+            cell_in(1, s, f.b),
+            cell_in(2, s, f.c),
+            cell_in(3, s, f.d),
         ],
     }
 }
@@ -232,35 +251,35 @@ pub struct Bits {
 }
 
 // The places of four hashes among n.
-fn places(h: Lanes, n: u32) -> Four
-    ensures { λ r. ⌜ (r .a ≡ Rattle.hash.specs.Fnv.place (h .a .state) n)
-        × (r .b ≡ Rattle.hash.specs.Fnv.place (h .b .state) n)
-        × (r .c ≡ Rattle.hash.specs.Fnv.place (h .c .state) n)
-        × (r .d ≡ Rattle.hash.specs.Fnv.place (h .d .state) n) ⌝ }
+fn places(f: Lanes, n: u32) -> Four
+    ensures { λ r. ⌜ (r .a ≡ Rattle.hash.specs.Fnv.place (f .a .state) n)
+        × (r .b ≡ Rattle.hash.specs.Fnv.place (f .b .state) n)
+        × (r .c ≡ Rattle.hash.specs.Fnv.place (f .c .state) n)
+        × (r .d ≡ Rattle.hash.specs.Fnv.place (f .d .state) n) ⌝ }
 {
     Four {
-        a: place(h.a.state, n) as usize,
-        b: place(h.b.state, n) as usize,
-        c: place(h.c.state, n) as usize,
-        d: place(h.d.state, n) as usize,
+        a: place(f.a.state, n) as usize,
+        b: place(f.b.state, n) as usize,
+        c: place(f.c.state, n) as usize,
+        d: place(f.d.state, n) as usize,
     }
 }
 
 // The filter bits of a key. Where kf is at most 4 the other four hashes are not worked out.
-pub fn bits_of(z: Sizes, salt: u32, key: &[u8]) -> Bits
-    requires { ⌜ Ranged z ⌝ }
+pub fn bits_of(z: Sizes, salt: u32, h: Salted, key: &[u8]) -> Bits
+    requires { ⌜ Ranged z × (h ≡ afterSalt salt) ⌝ }
     ensures { λ r. ⌜ r .at ≡ bitsOf z salt (now (key .entry)) ⌝ }
 {
     let n = layout::filter_bits(z) as u32;
     if z.kf <= 4 {
-        let p = places(hashes(salt, 0x46, 0, key), n);
+        let p = places(hashes(h.filter, 0, key), n);
         return Bits {
             at: [p.a, p.b, p.c, p.d, 0, 0, 0, 0],
         };
     }
-    let h = eight_hashes(salt, 0x46, key);
-    let p = places(h.low, n);
-    let q = places(h.high, n);
+    let f = eight_hashes(h.filter, key);
+    let p = places(f.low, n);
+    let q = places(f.high, n);
     Bits {
         at: [p.a, p.b, p.c, p.d, q.a, q.b, q.c, q.d],
     }

@@ -166,9 +166,10 @@ fn mark_pure(l: Layout, z: Sizes, salt: u32, xors: &[u8], flows: &[u16], marks: 
     ensures { λ _. ⌜ now (marks .exit) ≡ marksOf l z salt (now (xors .entry)) (now (flows .entry)) ⌝ }
 {
     let s = layout::part_cells(l, z);
+    let h = hash::after_salt(salt);
     let mut c = 0;
     while c < flows.len() {
-        let pure = table::is_pure(l, z, salt, c / s, xors, flows, c);
+        let pure = table::is_pure(l, z, salt, h, c / s, xors, flows, c);
         marks::put_mark(marks, c, pure);
         c += 1;
     }

@@ -25,17 +25,17 @@ place-after-determined κs a p z z′ ws ws′ e e′ = (e ∙ sym e′, refl)
 pub is-session-part-determined : Determined _ is-session-part-kinds.ps is-session-part-kinds.r is-session-part.Asked is-session-part.Learnt
 is-session-part-determined κs a p z z′ ws ws′ e e′ = (
   e .0 ∙ sym (e′ .0),
-  both refl (both refl (both refl (both refl (both refl (both refl (both refl (both refl (both refl (both refl (both refl (both refl (both refl (both refl (both (e .1 ∙ sym (e′ .1)) refl)))))))))))))),
+  both refl (both refl (both refl (both refl (both refl (both refl (both refl (both refl (both refl (both refl (both refl (both refl (both refl (both refl (both refl (both (e .1 ∙ sym (e′ .1)) refl))))))))))))))),
 )
 
 pub settle-part-determined : Determined _ settle-part-kinds.ps settle-part-kinds.r settle-part.Asked settle-part.Learnt
 settle-part-determined κs a p z z′ ws ws′ e e′ = let f = e ∙ sym e′ in (
   ap (λ (x : Rest). x .stop) f,
-  both refl (both refl (both refl (both refl (both refl (both refl (both (ap (λ (x : Rest). x .room .table .xors) f) (both (ap (λ (x : Rest). x .room .table .flows) f) (both (ap (λ (x : Rest). x .room .packets) f) (both (ap (λ (x : Rest). x .room .table .unknowns) f) (both (ap (λ (x : Rest). x .room .table .positions) f) (both (ap (λ (x : Rest). x .room .table .marks) f) (both (ap (λ (x : Rest). x .room .list .keys) f) (both (ap (λ (x : Rest). x .room .list .counts) f) (both (ap (λ (x : Rest). x .room .list .flags) f) (both (ap (λ (x : Rest). x .room .seen) f) refl))))))))))))))),
+  both refl (both refl (both refl (both refl (both refl (both refl (both refl (both (ap (λ (x : Rest). x .room .table .xors) f) (both (ap (λ (x : Rest). x .room .table .flows) f) (both (ap (λ (x : Rest). x .room .packets) f) (both (ap (λ (x : Rest). x .room .table .unknowns) f) (both (ap (λ (x : Rest). x .room .table .positions) f) (both (ap (λ (x : Rest). x .room .table .marks) f) (both (ap (λ (x : Rest). x .room .list .keys) f) (both (ap (λ (x : Rest). x .room .list .counts) f) (both (ap (λ (x : Rest). x .room .list .flags) f) (both (ap (λ (x : Rest). x .room .seen) f) refl)))))))))))))))),
 )
 
 pub give-determined : Determined _ give-kinds.ps give-kinds.r give.Asked give.Learnt
 give-determined κs a p z z′ ws ws′ e e′ = let f = e ∙ sym e′ in (
   ap (λ (x : Given). record { listed = x .listed; twelves = x .twelves }) f,
-  both refl (both refl (both refl (both refl (both refl (both refl (both refl (both refl (both refl (both (ap (λ (x : Given). x .table .xors) f) (both (ap (λ (x : Given). x .table .flows) f) (both (ap (λ (x : Given). x .table .unknowns) f) (both (ap (λ (x : Given). x .table .positions) f) (both (ap (λ (x : Given). x .table .marks) f) (both (ap (λ (x : Given). x .list .keys) f) (both (ap (λ (x : Given). x .list .counts) f) (both (ap (λ (x : Given). x .list .flags) f) (both (ap (λ (x : Given). x .seen) f) refl))))))))))))))))),
+  both refl (both refl (both refl (both refl (both refl (both refl (both refl (both refl (both refl (both refl (both (ap (λ (x : Given). x .table .xors) f) (both (ap (λ (x : Given). x .table .flows) f) (both (ap (λ (x : Given). x .table .unknowns) f) (both (ap (λ (x : Given). x .table .positions) f) (both (ap (λ (x : Given). x .table .marks) f) (both (ap (λ (x : Given). x .list .keys) f) (both (ap (λ (x : Given). x .list .counts) f) (both (ap (λ (x : Given). x .list .flags) f) (both (ap (λ (x : Given). x .seen) f) refl)))))))))))))))))),
 )

@@ -6,6 +6,7 @@ ghost use mathlib.Core.List.{[]};
 ghost use Prim.Native.Nat.{_+_, _-_, _*_, _≤_};
 ghost use lib.ListN.{length, take, drop};
 ghost use Rattle.layout.specs.Sizes.{Lays, Ranged, tableCells};
+ghost use Rattle.hash.specs.Salted.{afterSalt};
 ghost use Rattle.list.specs.Records.{records, Room, handedIn};
 ghost use Rattle.table.specs.Table.{tab, Fit};
 ghost use Rattle.test8.specs.Test8.{overListed, isSession};
@@ -30,6 +31,7 @@ ghost use Rattle.parts.specs.Areas.{
   givePart,
 };
 use handing::Handed;
+use hash::Salted;
 use layout::Layout;
 use layout::Sizes;
 use peeling::Stop;
@@ -88,6 +90,7 @@ pub fn is_session_part(
     l: Layout,
     z: Sizes,
     salt: u32,
+    h: Salted,
     a: Place,
     e: Place,
     n: usize,
@@ -104,7 +107,7 @@ pub fn is_session_part(
     requires { ⌜ Inside a e (tab (now xors) (now flows) (now unknowns) (now positions) (now marks)) (records (now keys) (now counts) (now flags)) (now seen)
         × Fit l z (tableAt a e (tab (now xors) (now flows) (now unknowns) (now positions) (now marks)))
         × Room l (2 * tableCells l z) (listAt a e (records (now keys) (now counts) (now flags)))
-        × Empty (between (a .seen) (e .seen) (now seen)) ⌝ }
+        × Empty (between (a .seen) (e .seen) (now seen)) × (h ≡ afterSalt salt) ⌝ }
     ensures { λ r. ⌜ (r ≡ isSession l z salt n (tableAt a e (tab (now (xors .entry)) (now (flows .entry)) (now (unknowns .entry)) (now (positions .entry)) (now (marks .entry))))
         (listAt a e (records (now (keys .entry)) (now (counts .entry)) (now (flags .entry)))))
         × (now (seen .exit) ≡ laid (a .seen) (e .seen) (now (seen .entry)) (seenUpto l z salt (cond (overListed l z n) 0 n)
@@ -126,6 +129,7 @@ pub fn is_session_part(
         l,
         z,
         salt,
+        h,
         n,
         &xors[x..xe],
         &flows[c..ce],
@@ -144,6 +148,7 @@ pub fn settle_part(
     l: Layout,
     z: Sizes,
     salt: u32,
+    h: Salted,
     a: Place,
     e: Place,
     n: usize,
@@ -161,7 +166,7 @@ pub fn settle_part(
     requires { ⌜ Inside a e (tab (now xors) (now flows) (now unknowns) (now positions) (now marks)) (records (now keys) (now counts) (now flags)) (now seen)
         × (e .cells ≤ length (now packets))
         × Stands l (switch z salt) (partAt a e n (areas (tab (now xors) (now flows) (now unknowns) (now positions) (now marks)) (now packets)
-        (records (now keys) (now counts) (now flags)) (now seen))) ⌝ }
+        (records (now keys) (now counts) (now flags)) (now seen))) × (h ≡ afterSalt salt) ⌝ }
     ensures { λ r. ⌜ rest r (areas (tab (now (xors .exit)) (now (flows .exit)) (now (unknowns .exit)) (now (positions .exit)) (now (marks .exit))) (now (packets .exit))
         (records (now (keys .exit)) (now (counts .exit)) (now (flags .exit))) (now (seen .exit)))
         ≡ settlePart l (switch z salt) a e n (areas (tab (now (xors .entry)) (now (flows .entry)) (now (unknowns .entry)) (now (positions .entry)) (now (marks .entry))) (now (packets .entry))
@@ -183,6 +188,7 @@ pub fn settle_part(
         l,
         z,
         salt,
+        h,
         n,
         &mut xors[x..xe],
         &mut flows[c..ce],
@@ -202,6 +208,7 @@ fn hand_part(
     l: Layout,
     z: Sizes,
     salt: u32,
+    h: Salted,
     a: Place,
     e: Place,
     n: usize,
@@ -221,7 +228,7 @@ fn hand_part(
     requires { ⌜ Inside a e (tab (now xors) (now flows) (now unknowns) (now positions) (now marks)) (records (now keys) (now counts) (now flags)) (now seen)
         × (a .filter ≤ e .filter) × (e .filter ≤ length (now filter))
         × Hands l z salt n handed (now key) (between (a .filter) (e .filter) (now filter)) (tableAt a e (tab (now xors) (now flows) (now unknowns) (now positions) (now marks)))
-        (listAt a e (records (now keys) (now counts) (now flags))) (between (a .seen) (e .seen) (now seen)) ⌝ }
+        (listAt a e (records (now keys) (now counts) (now flags))) (between (a .seen) (e .seen) (now seen)) × (h ≡ afterSalt salt) ⌝ }
     ensures { λ r. ⌜ handing r (tab (now (xors .exit)) (now (flows .exit)) (now (unknowns .exit)) (now (positions .exit)) (now (marks .exit)))
         (records (now (keys .exit)) (now (counts .exit)) (now (flags .exit))) (now (seen .exit))
         ≡ handPart l (switch z salt) a e n (now (key .entry)) (now (filter .entry))
@@ -246,6 +253,7 @@ fn hand_part(
         l,
         z,
         salt,
+        h,
         n,
         handed,
         key,
@@ -267,6 +275,7 @@ fn hand_next(
     l: Layout,
     z: Sizes,
     salt: u32,
+    h: Salted,
     a: Place,
     e: Place,
     n: usize,
@@ -286,7 +295,7 @@ fn hand_next(
     requires { ⌜ Inside a e (tab (now xors) (now flows) (now unknowns) (now positions) (now marks)) (records (now keys) (now counts) (now flags)) (now seen)
         × (a .filter ≤ e .filter) × (e .filter ≤ length (now filter)) × (at + l .key ≤ length (now keys)) × (at + l .key ≤ 16777216)
         × Hands l z salt n handed (take (l .key) (drop at (now keys))) (between (a .filter) (e .filter) (now filter)) (tableAt a e (tab (now xors) (now flows) (now unknowns) (now positions) (now marks)))
-        (listAt a e (records (now keys) (now counts) (now flags))) (between (a .seen) (e .seen) (now seen)) ⌝ }
+        (listAt a e (records (now keys) (now counts) (now flags))) (between (a .seen) (e .seen) (now seen)) × (h ≡ afterSalt salt) ⌝ }
     ensures { λ r. ⌜ handing r (tab (now (xors .exit)) (now (flows .exit)) (now (unknowns .exit)) (now (positions .exit)) (now (marks .exit)))
         (records (now (keys .exit)) (now (counts .exit)) (now (flags .exit))) (now (seen .exit))
         ≡ handPart l (switch z salt) a e n (take (l .key) (drop at (now (keys .entry)))) (now (filter .entry))
@@ -301,6 +310,7 @@ fn hand_next(
         l,
         z,
         salt,
+        h,
         a,
         e,
         n,
@@ -324,6 +334,7 @@ fn give_each(
     l: Layout,
     z: Sizes,
     salt: u32,
+    h: Salted,
     a: Place,
     e: Place,
     n: usize,
@@ -343,7 +354,7 @@ fn give_each(
 ) -> Tally
     requires { ⌜ Gives l z salt a e n from m (now filter) (tab (now xors) (now flows) (now unknowns) (now positions) (now marks))
         (records (now keys) (now counts) (now flags)) (now seen)
-        × (handed ≡ handedIn n (listAt a e (records (now keys) (now counts) (now flags)))) ⌝ }
+        × (handed ≡ handedIn n (listAt a e (records (now keys) (now counts) (now flags)))) × (h ≡ afterSalt salt) ⌝ }
     ensures { λ r. ⌜ given (r .listed) (r .twelves) (tab (now (xors .exit)) (now (flows .exit)) (now (unknowns .exit)) (now (positions .exit)) (now (marks .exit)))
         (records (now (keys .exit)) (now (counts .exit)) (now (flags .exit))) (now (seen .exit))
         ≡ givePart l (switch z salt) a e n from m (now (filter .entry))
@@ -357,10 +368,11 @@ fn give_each(
     let mut at = from;
     let mut i = 0;
     while i < m {
-        let h = hand_next(
+        let x = hand_next(
             l,
             z,
             salt,
+            h,
             a,
             e,
             listed,
@@ -377,9 +389,9 @@ fn give_each(
             flags,
             seen,
         );
-        listed += handing::taken_by(h);
-        over += handing::taken_by(h);
-        twelves += handing::twelve_by(h);
+        listed += handing::taken_by(x);
+        over += handing::taken_by(x);
+        twelves += handing::twelve_by(x);
         at += w;
         i += 1;
     }
@@ -401,6 +413,7 @@ pub fn give(
     l: Layout,
     z: Sizes,
     salt: u32,
+    h: Salted,
     a: Place,
     e: Place,
     n: usize,
@@ -418,7 +431,7 @@ pub fn give(
     seen: &mut [u16],
 ) -> Tally
     requires { ⌜ Gives l z salt a e n from m (now filter) (tab (now xors) (now flows) (now unknowns) (now positions) (now marks))
-        (records (now keys) (now counts) (now flags)) (now seen) ⌝ }
+        (records (now keys) (now counts) (now flags)) (now seen) × (h ≡ afterSalt salt) ⌝ }
     ensures { λ r. ⌜ given (r .listed) (r .twelves) (tab (now (xors .exit)) (now (flows .exit)) (now (unknowns .exit)) (now (positions .exit)) (now (marks .exit)))
         (records (now (keys .exit)) (now (counts .exit)) (now (flags .exit))) (now (seen .exit))
         ≡ givePart l (switch z salt) a e n from m (now (filter .entry))
@@ -429,6 +442,7 @@ pub fn give(
         l,
         z,
         salt,
+        h,
         a,
         e,
         n,

@@ -9,7 +9,7 @@ use Rattle.peeling.proofs.peels.Reads as peels
 use Rattle.peeling.specs.Peel.{Peeled, Ended}
 
 pub peel-determined : Determined _ peel-kinds.ps peel-kinds.r peel.Asked peel.Learnt
-peel-determined κs a p z z′ ws ws′ e e′ = let f = e ∙ sym e′ in (ap (λ (x : Peeled). x .answer) f, both refl (both refl (both refl (both refl (both (ap (λ (x : Peeled). x .table .xors) f) (both (ap (λ (x : Peeled). x .table .flows) f) (both (ap (λ (x : Peeled). x .table .unknowns) f) (both (ap (λ (x : Peeled). x .table .positions) f) (both (ap (λ (x : Peeled). x .table .marks) f) (both (ap (λ (x : Peeled). x .list .keys) f) (both (ap (λ (x : Peeled). x .list .counts) f) (both (ap (λ (x : Peeled). x .list .flags) f) (both (ap (λ (x : Peeled). x .seen) f) refl)))))))))))))
+peel-determined κs a p z z′ ws ws′ e e′ = let f = e ∙ sym e′ in (ap (λ (x : Peeled). x .answer) f, both refl (both refl (both refl (both refl (both refl (both (ap (λ (x : Peeled). x .table .xors) f) (both (ap (λ (x : Peeled). x .table .flows) f) (both (ap (λ (x : Peeled). x .table .unknowns) f) (both (ap (λ (x : Peeled). x .table .positions) f) (both (ap (λ (x : Peeled). x .table .marks) f) (both (ap (λ (x : Peeled). x .list .keys) f) (both (ap (λ (x : Peeled). x .list .counts) f) (both (ap (λ (x : Peeled). x .list .flags) f) (both (ap (λ (x : Peeled). x .seen) f) refl))))))))))))))
 
 pub peels-determined : Determined _ peels-kinds.ps peels-kinds.r peels.Asked peels.Learnt
-peels-determined κs a p z z′ ws ws′ e e′ = let f = e ∙ sym e′ in (ap (λ (x : Ended). x .answer) f, both refl (both refl (both refl (both refl (both (ap (λ (x : Ended). x .table .xors) f) (both (ap (λ (x : Ended). x .table .flows) f) (both (ap (λ (x : Ended). x .table .unknowns) f) (both (ap (λ (x : Ended). x .table .positions) f) (both (ap (λ (x : Ended). x .table .marks) f) (both (ap (λ (x : Ended). x .list .keys) f) (both (ap (λ (x : Ended). x .list .counts) f) (both (ap (λ (x : Ended). x .list .flags) f) (both (ap (λ (x : Ended). x .seen) f) refl)))))))))))))
+peels-determined κs a p z z′ ws ws′ e e′ = let f = e ∙ sym e′ in (ap (λ (x : Ended). x .answer) f, both refl (both refl (both refl (both refl (both refl (both (ap (λ (x : Ended). x .table .xors) f) (both (ap (λ (x : Ended). x .table .flows) f) (both (ap (λ (x : Ended). x .table .unknowns) f) (both (ap (λ (x : Ended). x .table .positions) f) (both (ap (λ (x : Ended). x .table .marks) f) (both (ap (λ (x : Ended). x .list .keys) f) (both (ap (λ (x : Ended). x .list .counts) f) (both (ap (λ (x : Ended). x .list .flags) f) (both (ap (λ (x : Ended). x .seen) f) refl))))))))))))))

@@ -5,11 +5,13 @@ ghost use mathlib.Core.Bool.{_||_};
 ghost use Prim.Native.Nat.{_*_, _≤_};
 ghost use lib.ListN.{length};
 ghost use Rattle.hash.specs.Places.{Within};
+ghost use Rattle.hash.specs.Salted.{afterSalt};
 ghost use Rattle.list.specs.Records.{records, isListed};
 ghost use Rattle.table.specs.Table.{tab, anyEmpty};
 ghost use Rattle.found.specs.Seen.{bucket, LeadsTo};
 ghost use Rattle.peeling.specs.Peel.{Fits, Steady, PeelRoom, peeled, peelOf, stopAt, ended, peelsOf};
 use hash::Cells;
+use hash::Salted;
 use layout::Layout;
 use layout::Sizes;
 
@@ -46,6 +48,7 @@ fn peel(
     l: Layout,
     z: Sizes,
     salt: u32,
+    h: Salted,
     n: usize,
     xors: &mut [u8],
     flows: &mut [u16],
@@ -59,7 +62,7 @@ fn peel(
 ) -> Step
     requires { ⌜ Fits l z salt n (tab (now xors) (now flows) (now unknowns) (now positions) (now marks))
         (records (now keys) (now counts) (now flags)) (now seen)
-        × PeelRoom l z n (tab (now xors) (now flows) (now unknowns) (now positions) (now marks)) ⌝ }
+        × PeelRoom l z n (tab (now xors) (now flows) (now unknowns) (now positions) (now marks)) × (h ≡ afterSalt salt) ⌝ }
     ensures { λ r. ⌜ peeled r (tab (now (xors .exit)) (now (flows .exit)) (now (unknowns .exit)) (now (positions .exit)) (now (marks .exit)))
         (records (now (keys .exit)) (now (counts .exit)) (now (flags .exit))) (now (seen .exit))
         ≡ peelOf l z salt n
@@ -75,7 +78,7 @@ fn peel(
     let e = a + l.key;
     let b = n * l.key;
     let d = b + l.key;
-    let at = hash::cells_of(l, z, salt, &xors[a..e]);
+    let at = hash::cells_of(l, z, salt, h, &xors[a..e]);
     if is_damaged(l, n, at, z.k, &xors[a..e], flows, keys, seen) {
         return Step::Damaged(c);
     }
@@ -85,6 +88,7 @@ fn peel(
         l,
         z,
         salt,
+        h,
         at,
         &keys[b..d],
         n as u16,
@@ -119,6 +123,7 @@ pub fn peels(
     l: Layout,
     z: Sizes,
     salt: u32,
+    h: Salted,
     n: usize,
     xors: &mut [u8],
     flows: &mut [u16],
@@ -131,7 +136,7 @@ pub fn peels(
     seen: &mut [u16],
 ) -> Stop
     requires { ⌜ Steady l z salt n (tab (now xors) (now flows) (now unknowns) (now positions) (now marks))
-        (records (now keys) (now counts) (now flags)) (now seen) ⌝ }
+        (records (now keys) (now counts) (now flags)) (now seen) × (h ≡ afterSalt salt) ⌝ }
     ensures { λ r. ⌜ ended r (tab (now (xors .exit)) (now (flows .exit)) (now (unknowns .exit)) (now (positions .exit)) (now (marks .exit)))
         (records (now (keys .exit)) (now (counts .exit)) (now (flags .exit))) (now (seen .exit))
         ≡ peelsOf l z salt n
@@ -144,6 +149,7 @@ pub fn peels(
             l,
             z,
             salt,
+            h,
             m,
             xors,
             flows,

@@ -3,6 +3,7 @@
 ghost use mathlib.Core.Path.{_≡_};
 ghost use Prim.Native.Nat.{_≤_};
 ghost use lib.ListN.{length};
+ghost use Rattle.hash.specs.Salted.{afterSalt};
 ghost use Rattle.list.specs.Records.{records};
 ghost use Rattle.table.specs.Table.{tab};
 ghost use Rattle.parts.specs.Areas.{between, areas};
@@ -10,6 +11,7 @@ ghost use Rattle.rounds.specs.Rounds.{settleBoth, round, rounds, exchang
 ghost use Rattle.rounds.specs.Joined.{switchOf, pairIn, left, leftBy, Both};
 use ending::Ending;
 use ending::Round;
+use hash::Salted;
 use layout::Layout;
 use parts::Place;
 use peeling::Stop;
@@ -20,6 +22,8 @@ fn settle_both(
     l: Layout,
     s: Session,
     t: Session,
+    h: Salted,
+    g: Salted,
     p: Place,
     e: Place,
     a: usize,
@@ -37,7 +41,7 @@ fn settle_both(
     seen: &mut [u16],
 ) -> Round
     requires { ⌜ Both l s t p e a b (areas (tab (now xors) (now flows) (now unknowns) (now positions) (now marks)) (now packets)
-        (records (now keys) (now counts) (now flags)) (now seen)) ⌝ }
+        (records (now keys) (now counts) (now flags)) (now seen)) × (h ≡ afterSalt (s .salt)) × (g ≡ afterSalt (t .salt)) ⌝ }
     ensures { λ r. ⌜ left r (areas (tab (now (xors .exit)) (now (flows .exit)) (now (unknowns .exit)) (now (positions .exit)) (now (marks .exit))) (now (packets .exit))
         (records (now (keys .exit)) (now (counts .exit)) (now (flags .exit))) (now (seen .exit)))
         ≡ leftBy (settleBoth l (switchOf s) (switchOf t) (pairIn p e a b twelves (areas (tab (now (xors .entry)) (now (flows .entry)) (now (unknowns .entry)) (now (positions .entry)) (now (marks .entry))) (now (packets .entry))
@@ -47,6 +51,7 @@ fn settle_both(
         l,
         s.sizes,
         s.salt,
+        h,
         parts::origin(),
         p,
         a,
@@ -68,6 +73,7 @@ fn settle_both(
         l,
         t.sizes,
         t.salt,
+        g,
         p,
         e,
         b,
@@ -90,6 +96,8 @@ fn one_round(
     l: Layout,
     s: Session,
     t: Session,
+    h: Salted,
+    g: Salted,
     p: Place,
     e: Place,
     a: usize,
@@ -108,7 +116,7 @@ fn one_round(
     seen: &mut [u16],
 ) -> Round
     requires { ⌜ Both l s t p e a b (areas (tab (now xors) (now flows) (now unknowns) (now positions) (now marks)) (now packets)
-        (records (now keys) (now counts) (now flags)) (now seen)) × (length (now filter) ≡ e .filter) × (twelves ≤ 1073741824) ⌝ }
+        (records (now keys) (now counts) (now flags)) (now seen)) × (length (now filter) ≡ e .filter) × (twelves ≤ 1073741824) × (h ≡ afterSalt (s .salt)) × (g ≡ afterSalt (t .salt)) ⌝ }
     ensures { λ r. ⌜ left r (areas (tab (now (xors .exit)) (now (flows .exit)) (now (unknowns .exit)) (now (positions .exit)) (now (marks .exit))) (now (packets .exit))
         (records (now (keys .exit)) (now (counts .exit)) (now (flags .exit))) (now (seen .exit)))
         ≡ leftBy (round l (switchOf s) (between 0 (p .filter) (now (filter .entry))) (switchOf t) (between (p .filter) (e .filter) (now (filter .entry))) (pairIn p e a b twelves (areas (tab (now (xors .entry)) (now (flows .entry)) (now (unknowns .entry)) (now (positions .entry)) (now (marks .entry))) (now (packets .entry))
@@ -118,6 +126,7 @@ fn one_round(
         l,
         t.sizes,
         t.salt,
+        g,
         p,
         e,
         b,
@@ -139,6 +148,7 @@ fn one_round(
         l,
         s.sizes,
         s.salt,
+        h,
         parts::origin(),
         p,
         a,
@@ -159,6 +169,8 @@ fn one_round(
         l,
         s,
         t,
+        h,
+        g,
         p,
         e,
         to_a.listed,
@@ -182,6 +194,8 @@ fn all_rounds(
     l: Layout,
     s: Session,
     t: Session,
+    h: Salted,
+    g: Salted,
     p: Place,
     e: Place,
     a: usize,
@@ -200,7 +214,7 @@ fn all_rounds(
     seen: &mut [u16],
 ) -> Round
     requires { ⌜ Both l s t p e a b (areas (tab (now xors) (now flows) (now unknowns) (now positions) (now marks)) (now packets)
-        (records (now keys) (now counts) (now flags)) (now seen)) × (length (now filter) ≡ e .filter) × (most ≤ 6145) ⌝ }
+        (records (now keys) (now counts) (now flags)) (now seen)) × (length (now filter) ≡ e .filter) × (most ≤ 6145) × (h ≡ afterSalt (s .salt)) × (g ≡ afterSalt (t .salt)) ⌝ }
     ensures { λ r. ⌜ left r (areas (tab (now (xors .exit)) (now (flows .exit)) (now (unknowns .exit)) (now (positions .exit)) (now (marks .exit))) (now (packets .exit))
         (records (now (keys .exit)) (now (counts .exit)) (now (flags .exit))) (now (seen .exit)))
         ≡ leftBy (rounds most l (switchOf s) (between 0 (p .filter) (now (filter .entry))) (switchOf t) (between (p .filter) (e .filter) (now (filter .entry))) (pairIn p e a b 0 (areas (tab (now (xors .entry)) (now (flows .entry)) (now (unknowns .entry)) (now (positions .entry)) (now (marks .entry))) (now (packets .entry))
@@ -218,6 +232,8 @@ fn all_rounds(
             l,
             s,
             t,
+            h,
+            g,
             p,
             e,
             r.a,
@@ -249,6 +265,8 @@ pub fn exchange_sides(
     l: Layout,
     s: Session,
     t: Session,
+    h: Salted,
+    g: Salted,
     p: Place,
     e: Place,
     filter: &[u8],
@@ -264,7 +282,7 @@ pub fn exchange_sides(
     seen: &mut [u16],
 ) -> Round
     requires { ⌜ Both l s t p e (s .listed) (t .listed) (areas (tab (now xors) (now flows) (now unknowns) (now positions) (now marks)) (now packets)
-        (records (now keys) (now counts) (now flags)) (now seen)) × (length (now filter) ≡ e .filter) ⌝ }
+        (records (now keys) (now counts) (now flags)) (now seen)) × (length (now filter) ≡ e .filter) × (h ≡ afterSalt (s .salt)) × (g ≡ afterSalt (t .salt)) ⌝ }
     ensures { λ r. ⌜ left r (areas (tab (now (xors .exit)) (now (flows .exit)) (now (unknowns .exit)) (now (positions .exit)) (now (marks .exit))) (now (packets .exit))
         (records (now (keys .exit)) (now (counts .exit)) (now (flags .exit))) (now (seen .exit)))
         ≡ leftBy (exchangeSides l (switchOf s) (between 0 (p .filter) (now (filter .entry))) (switchOf t) (between (p .filter) (e .filter) (now (filter .entry)))
@@ -275,6 +293,8 @@ pub fn exchange_sides(
         l,
         s,
         t,
+        h,
+        g,
         p,
         e,
         s.listed,
@@ -300,6 +320,8 @@ pub fn exchange_sides(
         l,
         s,
         t,
+        h,
+        g,
         p,
         e,
         r.a,

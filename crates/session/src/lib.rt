@@ -4,6 +4,7 @@ ghost use mathlib.Core.Path.{_≡_};
 ghost use Prim.Native.Nat.{_≤_};
 ghost use lib.ListN.{length};
 ghost use Rattle.layout.specs.Sizes.{Lays, ipv4Layout};
+ghost use Rattle.hash.specs.Salted.{afterSalt};
 ghost use Rattle.list.specs.Records.{records};
 ghost use Rattle.packet.specs.Key.{keyBytes};
 ghost use Rattle.table.specs.Table.{tab};
@@ -14,6 +15,7 @@ ghost use Rattle.test8.specs.Given.{seenUpto};
 ghost use Rattle.session.specs.declared.Tested.the-variants as tests;
 ghost use Rattle.session.specs.Calls.{testOf, handingTo, handAnswer, handOver, settlingTo, settleAnswer, settleOf, reportOn};
 use handing::Handed;
+use hash::Salted;
 use layout::Layout;
 use opening::Opened;
 use packet::Key;
@@ -97,6 +99,7 @@ pub fn open(
 fn test(
     l: Layout,
     s: Session,
+    h: Salted,
     filter: &[u8],
     xors: &[u8],
     flows: &[u16],
@@ -109,7 +112,7 @@ fn test(
     flags: &[u8],
     seen: &mut [u16],
 ) -> Tested
-    requires { ⌜ Lays l × Empty (now seen) ⌝ }
+    requires { ⌜ Lays l × Empty (now seen) × (h ≡ afterSalt (s .salt)) ⌝ }
     ensures { λ r. ⌜ (r ≡ testOf l s (memory (now (filter .entry))
         (tab (now (xors .entry)) (now (flows .entry)) (now (unknowns .entry)) (now (positions .entry)) (now (marks .entry))) (now (packets .entry))
         (records (now (keys .entry)) (now (counts .entry)) (now (flags .entry)))))
@@ -140,6 +143,7 @@ fn test(
         l,
         z,
         s.salt,
+        h,
         s.listed,
         xors,
         flows,
@@ -195,9 +199,11 @@ pub fn hand_over_in(
         (now (packets .entry)) (records (now (keys .entry)) (now (counts .entry)) (now (flags .entry)))) ⌝ }
 {
     let mut seen = [0u16; 11264];
+    let h = hash::after_salt(s.salt);
     match test(
         l,
         s,
+        h,
         filter,
         xors,
         flows,
@@ -218,6 +224,7 @@ pub fn hand_over_in(
         l,
         s.sizes,
         s.salt,
+        h,
         s.listed,
         test8::flagged_in(s.listed, test8::HANDED, flags),
         key,
@@ -309,9 +316,11 @@ pub fn settle_in(
         (now (packets .entry)) (records (now (keys .entry)) (now (counts .entry)) (now (flags .entry)))) ⌝ }
 {
     let mut seen = [0u16; 11264];
+    let h = hash::after_salt(s.salt);
     match test(
         l,
         s,
+        h,
         filter,
         xors,
         flows,
@@ -332,6 +341,7 @@ pub fn settle_in(
         l,
         s.sizes,
         s.salt,
+        h,
         s.listed,
         xors,
         flows,
@@ -405,9 +415,11 @@ pub fn report_in(
         (now (packets .entry)) (records (now (keys .entry)) (now (counts .entry)) (now (flags .entry)))) ⌝ }
 {
     let mut seen = [0u16; 11264];
+    let h = hash::after_salt(s.salt);
     match test(
         l,
         s,
+        h,
         filter,
         xors,
         flows,

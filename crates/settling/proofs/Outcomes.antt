@@ -10,7 +10,7 @@ pub settle-all-determined : Determined _ settle-all-kinds.ps settle-all-kinds.r 
 settle-all-determined κs a p z z′ ws ws′ e e′ = let f = e ∙ sym e′ in (
   ap (λ (x : Settled). x .answer) f,
   both refl
-      (both refl (both refl
+      (both refl (both refl (both refl
       (both refl (both (ap (λ (x : Settled). x .table .xors) f)
       (both (ap (λ (x : Settled). x .table .flows) f)
       (both (ap (λ (x : Settled). x .packets) f)
@@ -19,5 +19,5 @@ settle-all-determined κs a p z z′ ws ws′ e e′ = let f = e ∙ sym e′ in
       (both (ap (λ (x : Settled). x .table .marks) f)
       (both (ap (λ (x : Settled). x .list .keys) f)
       (both (ap (λ (x : Settled). x .list .counts) f)
-      (both (ap (λ (x : Settled). x .list .flags) f) (both (ap (λ (x : Settled). x .seen) f) refl))))))))))))),
+      (both (ap (λ (x : Settled). x .list .flags) f) (both (ap (λ (x : Settled). x .seen) f) refl)))))))))))))),
 )

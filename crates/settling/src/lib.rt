@@ -2,10 +2,12 @@
 ghost use mathlib.Core.Path.{_≡_};
 ghost use lib.ListN.{length};
 ghost use Rattle.layout.specs.Sizes.{tableCells};
+ghost use Rattle.hash.specs.Salted.{afterSalt};
 ghost use Rattle.list.specs.Records.{records};
 ghost use Rattle.table.specs.Table.{tab};
 ghost use Rattle.peeling.specs.Peel.{Steady};
 ghost use Rattle.settling.specs.Settle.{settled, stopAfter, settleOf};
+use hash::Salted;
 use layout::Layout;
 use layout::Sizes;
 use peeling::Stop;
@@ -25,6 +27,7 @@ pub fn settle_all(
     l: Layout,
     z: Sizes,
     salt: u32,
+    h: Salted,
     n: usize,
     xors: &mut [u8],
     flows: &mut [u16],
@@ -38,7 +41,7 @@ pub fn settle_all(
     seen: &mut [u16],
 ) -> Stop
     requires { ⌜ Steady l z salt n (tab (now xors) (now flows) (now unknowns) (now positions) (now marks))
-        (records (now keys) (now counts) (now flags)) (now seen) × (length (now packets) ≡ tableCells l z) ⌝ }
+        (records (now keys) (now counts) (now flags)) (now seen) × (length (now packets) ≡ tableCells l z) × (h ≡ afterSalt salt) ⌝ }
     ensures { λ r. ⌜ settled r
         (tab (now (xors .exit)) (now (flows .exit)) (now (unknowns .exit)) (now (positions .exit)) (now (marks .exit)))
         (now (packets .exit)) (records (now (keys .exit)) (now (counts .exit)) (now (flags .exit))) (now (seen .exit))
@@ -50,6 +53,7 @@ pub fn settle_all(
         l,
         z,
         salt,
+        h,
         n,
         xors,
         flows,
@@ -68,6 +72,7 @@ pub fn settle_all(
         l,
         z,
         salt,
+        h,
         listed,
         flows,
         packets,

@@ -14,7 +14,7 @@ pub is-pure-determined : Determined _ is-pure-kinds.ps is-pure-kinds.r is-pure.A
 is-pure-determined κs a p z z′ ws ws′ e e′ = (e ∙ sym e′, refl)
 
 pub take-out-determined : Determined _ take-out-kinds.ps take-out-kinds.r take-out.Asked take-out.Learnt
-take-out-determined κs a p z z′ ws ws′ e e′ = let f = e ∙ sym e′ in (refl, both refl (both refl (both refl (both refl (both refl (both refl (both (ap (λ (x : Tab). x .xors) f) (both (ap (λ (x : Tab). x .flows) f) (both (ap (λ (x : Tab). x .unknowns) f) (both (ap (λ (x : Tab). x .positions) f) (both (ap (λ (x : Tab). x .marks) f) refl)))))))))))
+take-out-determined κs a p z z′ ws ws′ e e′ = let f = e ∙ sym e′ in (refl, both refl (both refl (both refl (both refl (both refl (both refl (both refl (both (ap (λ (x : Tab). x .xors) f) (both (ap (λ (x : Tab). x .flows) f) (both (ap (λ (x : Tab). x .unknowns) f) (both (ap (λ (x : Tab). x .positions) f) (both (ap (λ (x : Tab). x .marks) f) refl))))))))))))
 
 pub any-empty-determined : Determined _ any-empty-kinds.ps any-empty-kinds.r any-empty.Asked any-empty.Learnt
 any-empty-determined κs a p z z′ ws ws′ e e′ = (e ∙ sym e′, refl)

@@ -6,8 +6,10 @@ ghost use lib.ListN.{length};
 ghost use Rattle.laws.specs.Upto.{listUpto};
 ghost use Rattle.layout.specs.Sizes.{Lays, Ranged};
 ghost use Rattle.hash.specs.Places.{cellOf, Within};
+ghost use Rattle.hash.specs.Salted.{afterSalt};
 ghost use Rattle.table.specs.Table.{tab, Fit, InPart, InBytes, pureAt, anyEmpty, takenAt, takenOut};
 use hash::Cells;
+use hash::Salted;
 use layout::Layout;
 use layout::Sizes;
 
@@ -16,12 +18,13 @@ pub fn is_pure(
     l: Layout,
     z: Sizes,
     salt: u32,
+    h: Salted,
     i: usize,
     xors: &[u8],
     flows: &[u16],
     c: usize,
 ) -> bool
-    requires { ⌜ Lays l × Ranged z × InPart l z i c × InBytes l (length (now xors)) c × (c < length (now flows)) ⌝ }
+    requires { ⌜ Lays l × Ranged z × InPart l z i c × InBytes l (length (now xors)) c × (c < length (now flows)) × (h ≡ afterSalt salt) ⌝ }
     ensures { λ r. ⌜ r ≡ pureAt l z salt (now (xors .entry)) (now (flows .entry)) c ⌝ }
 {
     if flows[c] != 1 {
@@ -29,7 +32,7 @@ pub fn is_pure(
     }
     let a = c * l.key;
     let e = a + l.key;
-    hash::cell_of(l, z, salt, i, &xors[a..e]) == c
+    hash::cell_of(l, z, salt, h, i, &xors[a..e]) == c
 }
 
 // One less, and never below 0: a peel finds no 0 here, and this function need not know that.
@@ -44,6 +47,7 @@ fn take_one(
     l: Layout,
     z: Sizes,
     salt: u32,
+    h: Salted,
     key: &[u8],
     position: u16,
     i: usize,
@@ -54,7 +58,7 @@ fn take_one(
     positions: &mut [u16],
     marks: &mut [u64],
 )
-    requires { ⌜ Fit l z (tab (now xors) (now flows) (now unknowns) (now positions) (now marks)) × InPart l z i c × (length (now key) ≡ l .key) ⌝ }
+    requires { ⌜ Fit l z (tab (now xors) (now flows) (now unknowns) (now positions) (now marks)) × InPart l z i c × (length (now key) ≡ l .key) × (h ≡ afterSalt salt) ⌝ }
     ensures { λ _. ⌜ tab (now (xors .exit)) (now (flows .exit)) (now (unknowns .exit)) (now (positions .exit)) (now (marks .exit))
         ≡ takenAt l z salt (now (key .entry)) position c
         (tab (now (xors .entry)) (now (flows .entry)) (now (unknowns .entry)) (now (positions .entry)) (now (marks .entry))) ⌝ }
@@ -63,7 +67,7 @@ fn take_one(
     flows[c] = less(flows[c]);
     unknowns[c] = std::num::wrapping_add_u16(unknowns[c], 1);
     positions[c] = positions[c] ^ position;
-    let pure = is_pure(l, z, salt, i, xors, flows, c);
+    let pure = is_pure(l, z, salt, h, i, xors, flows, c);
     marks::put_mark(marks, c, pure);
 }
 
@@ -72,6 +76,7 @@ pub fn take_out(
     l: Layout,
     z: Sizes,
     salt: u32,
+    h: Salted,
     at: Cells,
     key: &[u8],
     position: u16,
@@ -82,7 +87,7 @@ pub fn take_out(
     marks: &mut [u64],
 )
     requires { ⌜ Fit l z (tab (now xors) (now flows) (now unknowns) (now positions) (now marks))
-        × (at .at ≡ listUpto 4 (cellOf l z salt (now key))) × (length (now key) ≡ l .key) ⌝ }
+        × (at .at ≡ listUpto 4 (cellOf l z salt (now key))) × (length (now key) ≡ l .key) × (h ≡ afterSalt salt) ⌝ }
     ensures { λ _. ⌜ tab (now (xors .exit)) (now (flows .exit)) (now (unknowns .exit)) (now (positions .exit)) (now (marks .exit))
         ≡ takenOut l z salt (now (key .entry)) position
         (tab (now (xors .entry)) (now (flows .entry)) (now (unknowns .entry)) (now (positions .entry)) (now (marks .entry))) ⌝ }
@@ -94,6 +99,7 @@ pub fn take_out(
             l,
             z,
             salt,
+            h,
             key,
             position,
             i,

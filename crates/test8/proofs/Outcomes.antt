@@ -18,6 +18,6 @@ open-in-determined κs a p z z′ ws ws′ e e′ = (e .0 ∙ sym (e′ .0), ref
 pub is-session-seen-determined : Determined _ is-session-seen-kinds.ps is-session-seen-kinds.r is-session-seen.Asked is-session-seen.Learnt
 is-session-seen-determined κs a p z z′ ws ws′ e e′ = (
   e .0 ∙ sym (e′ .0),
-  both refl (both refl (both refl (both refl (both refl (both refl
-      (both refl (both refl (both refl (both refl (both refl (both refl (both (e .1 ∙ sym (e′ .1)) refl)))))))))))),
+  both refl (both refl (both refl (both refl (both refl (both refl (both refl
+      (both refl (both refl (both refl (both refl (both refl (both refl (both (e .1 ∙ sym (e′ .1)) refl))))))))))))),
 )

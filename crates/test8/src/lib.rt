@@ -12,9 +12,11 @@ ghost use Rattle.index.specs.Index.{Empty};
 ghost use Rattle.marks.specs.Marks.{wordsFor};
 ghost use Rattle.table.specs.Table.{tab, Fit, openIn};
 ghost use Rattle.hash.specs.Places.{Within};
+ghost use Rattle.hash.specs.Salted.{afterSalt};
 ghost use Rattle.test8.specs.Given.{flagSet, renewed, oneMore, mixedIn, noted, seenUpto};
 ghost use Rattle.test8.specs.Test8.{overListed, keysRepeat, agrees, marksRight, restClear, isSession};
 use hash::Cells;
+use hash::Salted;
 use layout::Layout;
 use layout::Sizes;
 
@@ -163,6 +165,7 @@ fn note_list(
     l: Layout,
     z: Sizes,
     salt: u32,
+    h: Salted,
     n: usize,
     keys: &[u8],
     flags: &[u8],
@@ -171,7 +174,7 @@ fn note_list(
     positions: &mut [u16],
 ) -> bool
     requires { ⌜ Lays l × Ranged z × (n ≤ 3072) × (n * l .key ≤ length (now keys)) × (n ≤ length (now flags)) × Empty (now seen)
-        × (length (now unknowns) ≡ 1536) × (length (now positions) ≡ 1536) ⌝ }
+        × (length (now unknowns) ≡ 1536) × (length (now positions) ≡ 1536) × (h ≡ afterSalt salt) ⌝ }
     ensures { λ r. ⌜ (r ≡ keysRepeat l n (now (keys .entry))) × (now (seen .exit) ≡ seenUpto l z salt n (now (keys .entry)) (now (seen .entry)))
         × (now (unknowns .exit) ≡ noted l z salt oneMore n (now (keys .entry)) (now (flags .entry)) (now (unknowns .entry)))
         × (now (positions .exit) ≡ noted l z salt mixedIn n (now (keys .entry)) (now (flags .entry)) (now (positions .entry))) ⌝ }
@@ -181,7 +184,7 @@ fn note_list(
     while i < n {
         let a = i * l.key;
         let e = a + l.key;
-        let at = hash::cells_of(l, z, salt, &keys[a..e]);
+        let at = hash::cells_of(l, z, salt, h, &keys[a..e]);
         repeat = either(repeat, found::is_found(l, i, at, &keys[a..e], keys, seen));
         index::link(seen, found::bucket(at), i);
         note_flow(at, z.k, flags[i], i as u16, unknowns, positions);
@@ -191,15 +194,23 @@ fn note_list(
 }
 
 // Whether the mark of every cell says if it is pure. Only a cell with FlowCount 1 is hashed.
-fn marks_right(l: Layout, z: Sizes, salt: u32, xors: &[u8], flows: &[u16], marks: &[u64]) -> bool
+fn marks_right(
+    l: Layout,
+    z: Sizes,
+    salt: u32,
+    h: Salted,
+    xors: &[u8],
+    flows: &[u16],
+    marks: &[u64],
+) -> bool
     requires { ⌜ Lays l × Ranged z × (length (now xors) ≡ tableCells l z * l .key) × (length (now flows) ≡ tableCells l z)
-        × (length (now marks) ≡ wordsFor (tableCells l z)) ⌝ }
+        × (length (now marks) ≡ wordsFor (tableCells l z)) × (h ≡ afterSalt salt) ⌝ }
     ensures { λ r. ⌜ r ≡ marksRight l z salt (now (xors .entry)) (now (flows .entry)) (now (marks .entry)) ⌝ }
 {
     let s = layout::part_cells(l, z);
     let mut c = 0;
     while c < flows.len() {
-        let pure = table::is_pure(l, z, salt, c / s, xors, flows, c);
+        let pure = table::is_pure(l, z, salt, h, c / s, xors, flows, c);
         if !agree(marks::is_marked(marks, c), pure) {
             return false;
         }
@@ -244,6 +255,7 @@ pub fn is_session_seen(
     l: Layout,
     z: Sizes,
     salt: u32,
+    h: Salted,
     n: usize,
     xors: &[u8],
     flows: &[u16],
@@ -256,7 +268,7 @@ pub fn is_session_seen(
     seen: &mut [u16],
 ) -> bool
     requires { ⌜ Fit l z (tab (now xors) (now flows) (now unknowns) (now positions) (now marks))
-        × Room l (2 * tableCells l z) (records (now keys) (now counts) (now flags)) × Empty (now seen) ⌝ }
+        × Room l (2 * tableCells l z) (records (now keys) (now counts) (now flags)) × Empty (now seen) × (h ≡ afterSalt salt) ⌝ }
     ensures { λ r. ⌜ (r ≡ isSession l z salt n
         (tab (now (xors .entry)) (now (flows .entry)) (now (unknowns .entry)) (now (positions .entry)) (now (marks .entry)))
         (records (now (keys .entry)) (now (counts .entry)) (now (flags .entry))))
@@ -268,7 +280,7 @@ pub fn is_session_seen(
     }
     let mut us = [0u16; 1536];
     let mut ps = [0u16; 1536];
-    if note_list(l, z, salt, n, keys, flags, seen, &mut us, &mut ps) {
+    if note_list(l, z, salt, h, n, keys, flags, seen, &mut us, &mut ps) {
         return false;
     }
     if any_zero_count(n, counts, flags) {
@@ -277,7 +289,7 @@ pub fn is_session_seen(
     if !numbers_in(n, flows, flags) {
         return false;
     }
-    if !marks_right(l, z, salt, xors, flows, marks) {
+    if !marks_right(l, z, salt, h, xors, flows, marks) {
         return false;
     }
     if !rest_clear(cells, marks) {

@@ -92,8 +92,9 @@ fn answer_places(payload: &[u8]) {
     let salt = fields::long_at(payload, 4);
     let from = 8;
     let key = &payload[from..];
-    let cells = hash::cells_of(layout::ipv4(), z, salt, key);
-    let bits = hash::bits_of(z, salt, key);
+    let h = hash::after_salt(salt);
+    let cells = hash::cells_of(layout::ipv4(), z, salt, h, key);
+    let bits = hash::bits_of(z, salt, h, key);
     telling::say(b"0");
     let c = cells.at;
     let b = bits.at;

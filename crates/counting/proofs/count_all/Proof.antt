@@ -10,19 +10,19 @@ use Rattle.counting.proofs.count_all.Statement.{statement}
 use Rattle.counting.proofs.count_all.Tie as tie
 
 abbrev Inv-loop : tie.InvT-loop
-Inv-loop l z salt n flows packets₀ unknowns₀ positions₀ keys counts₀ flags₀ ready₀ left₀ packets unknowns positions counts flags ready left =
+Inv-loop l z salt h n flows packets₀ unknowns₀ positions₀ keys counts₀ flags₀ ready₀ left₀ packets unknowns positions counts flags ready left =
     Going l z salt n flows left (book packets unknowns positions ready) (records keys counts flags)
     (countsOf l z salt n flows packets₀ unknowns₀ positions₀ (records keys counts₀ flags₀))
 
 abbrev μ-loop : tie.MeasureT-loop
-μ-loop l z salt n flows packets₀ unknowns₀ positions₀ keys counts₀ flags₀ ready₀ left₀ packets unknowns positions counts flags ready left = left
+μ-loop l z salt h n flows packets₀ unknowns₀ positions₀ keys counts₀ flags₀ ready₀ left₀ packets unknowns positions counts flags ready left = left
 
 slice-aggregate-find-ready : tie.Need-slice-aggregate-find-ready Inv-loop μ-loop
 slice-aggregate-find-ready c = search needs
 
 find-ready-requires : tie.Need-find-ready-requires Inv-loop μ-loop
 find-ready-requires c κs =
-    let f = (c .before .before .before .before .before .before .before .before .before) .pre in
+    let f = (c .before .before .before .before .before .before .before .before .before) .pre .0 in
     (refl, omega (arith, f .cells .few, f .cells .flows-fit), f .cells .unknowns-fit ∙ sym (f .cells .flows-fit))
 
 loop-holds : tie.Need-loop-holds Inv-loop μ-loop
@@ -31,13 +31,13 @@ loop-holds c =
     let a = s .args in
     going (a .l) (a .z) (a .salt) (a .n) (a .flows .now) (a .packets .now) (a .unknowns .now) (a .positions .now)
     (records (a .keys .now) (a .counts .now) (a .flags .now))
-    (s .pre) (s .pre .cells .flows-fit) (c .before .find-ready .ensures)
+    (s .pre .0) (s .pre .0 .cells .flows-fit) (c .before .find-ready .ensures)
 
 slice-aggregate-count-step : tie.Need-slice-aggregate-count-step Inv-loop μ-loop
 slice-aggregate-count-step c = search needs
 
 count-step-requires : tie.Need-count-step-requires Inv-loop μ-loop
-count-step-requires c κs = c .before .before .before .before .before .before .before .loop .inv .fits
+count-step-requires c κs = (c .before .before .before .before .before .before .before .loop .inv .fits, (c .before .before .before .before .before .before .before .before .before .before .before .before .before .before .before .before .before .before .before) .pre .1)
 
 enum-told : tie.Need-enum-told Inv-loop μ-loop
 enum-told c = search needs
@@ -56,19 +56,19 @@ stop-at-requires : tie.Need-stop-at-requires Inv-loop μ-loop
 stop-at-requires c κs = search needs
 
 same-length : tie.Need-same-length Inv-loop μ-loop
-same-length c = c .before .before .before .before .before .before .before .before .before .before .before .before .before .count-step .kept .1 .1 .1 .1 .1 .0 ∙ c .before .before .before .before .before .before .before .before .before .before .before .before .before .before .before .before .before .before .before .before .before .loop .inv .fits .cells .packets-fit ∙ sym (c .before .before .before .before .before .before .before .before .before .before .before .before .before .before .before .before .before .before .before .before .before .before .before .before .before .before .before .before .before .before .before .before .before .pre .cells .packets-fit)
+same-length c = c .before .before .before .before .before .before .before .before .before .before .before .before .before .count-step .kept .1 .1 .1 .1 .1 .1 .0 ∙ c .before .before .before .before .before .before .before .before .before .before .before .before .before .before .before .before .before .before .before .before .before .loop .inv .fits .cells .packets-fit ∙ sym (c .before .before .before .before .before .before .before .before .before .before .before .before .before .before .before .before .before .before .before .before .before .before .before .before .before .before .before .before .before .before .before .before .before .pre .0 .cells .packets-fit)
 
 same-length-2 : tie.Need-same-length-2 Inv-loop μ-loop
-same-length-2 c = c .before .before .before .before .before .before .before .before .before .before .before .before .before .count-step .kept .1 .1 .1 .1 .1 .1 .0 ∙ c .before .before .before .before .before .before .before .before .before .before .before .before .before .before .before .before .before .before .before .before .before .loop .inv .fits .cells .unknowns-fit ∙ sym (c .before .before .before .before .before .before .before .before .before .before .before .before .before .before .before .before .before .before .before .before .before .before .before .before .before .before .before .before .before .before .before .before .before .pre .cells .unknowns-fit)
+same-length-2 c = c .before .before .before .before .before .before .before .before .before .before .before .before .before .count-step .kept .1 .1 .1 .1 .1 .1 .1 .0 ∙ c .before .before .before .before .before .before .before .before .before .before .before .before .before .before .before .before .before .before .before .before .before .loop .inv .fits .cells .unknowns-fit ∙ sym (c .before .before .before .before .before .before .before .before .before .before .before .before .before .before .before .before .before .before .before .before .before .before .before .before .before .before .before .before .before .before .before .before .before .pre .0 .cells .unknowns-fit)
 
 same-length-3 : tie.Need-same-length-3 Inv-loop μ-loop
-same-length-3 c = c .before .before .before .before .before .before .before .before .before .before .before .before .before .count-step .kept .1 .1 .1 .1 .1 .1 .1 .0 ∙ c .before .before .before .before .before .before .before .before .before .before .before .before .before .before .before .before .before .before .before .before .before .loop .inv .fits .cells .positions-fit ∙ sym (c .before .before .before .before .before .before .before .before .before .before .before .before .before .before .before .before .before .before .before .before .before .before .before .before .before .before .before .before .before .before .before .before .before .pre .cells .positions-fit)
+same-length-3 c = c .before .before .before .before .before .before .before .before .before .before .before .before .before .count-step .kept .1 .1 .1 .1 .1 .1 .1 .1 .0 ∙ c .before .before .before .before .before .before .before .before .before .before .before .before .before .before .before .before .before .before .before .before .before .loop .inv .fits .cells .positions-fit ∙ sym (c .before .before .before .before .before .before .before .before .before .before .before .before .before .before .before .before .before .before .before .before .before .before .before .before .before .before .before .before .before .before .before .before .before .pre .0 .cells .positions-fit)
 
 same-length-4 : tie.Need-same-length-4 Inv-loop μ-loop
-same-length-4 c = c .before .before .before .before .before .before .before .before .before .before .before .before .before .count-step .kept .1 .1 .1 .1 .1 .1 .1 .1 .1 .1 .0 ∙ c .before .before .before .before .before .before .before .before .before .before .before .before .before .before .before .before .before .before .before .before .before .loop .inv .fits .room .counts-fit ∙ sym (c .before .before .before .before .before .before .before .before .before .before .before .before .before .before .before .before .before .before .before .before .before .before .before .before .before .before .before .before .before .before .before .before .before .pre .room .counts-fit)
+same-length-4 c = c .before .before .before .before .before .before .before .before .before .before .before .before .before .count-step .kept .1 .1 .1 .1 .1 .1 .1 .1 .1 .1 .1 .0 ∙ c .before .before .before .before .before .before .before .before .before .before .before .before .before .before .before .before .before .before .before .before .before .loop .inv .fits .room .counts-fit ∙ sym (c .before .before .before .before .before .before .before .before .before .before .before .before .before .before .before .before .before .before .before .before .before .before .before .before .before .before .before .before .before .before .before .before .before .pre .0 .room .counts-fit)
 
 same-length-5 : tie.Need-same-length-5 Inv-loop μ-loop
-same-length-5 c = c .before .before .before .before .before .before .before .before .before .before .before .before .before .count-step .kept .1 .1 .1 .1 .1 .1 .1 .1 .1 .1 .1 .0 ∙ c .before .before .before .before .before .before .before .before .before .before .before .before .before .before .before .before .before .before .before .before .before .loop .inv .fits .room .flags-fit ∙ sym (c .before .before .before .before .before .before .before .before .before .before .before .before .before .before .before .before .before .before .before .before .before .before .before .before .before .before .before .before .before .before .before .before .before .pre .room .flags-fit)
+same-length-5 c = c .before .before .before .before .before .before .before .before .before .before .before .before .before .count-step .kept .1 .1 .1 .1 .1 .1 .1 .1 .1 .1 .1 .1 .0 ∙ c .before .before .before .before .before .before .before .before .before .before .before .before .before .before .before .before .before .before .before .before .before .loop .inv .fits .room .flags-fit ∙ sym (c .before .before .before .before .before .before .before .before .before .before .before .before .before .before .before .before .before .before .before .before .before .before .before .before .before .before .before .before .before .before .before .before .before .pre .0 .room .flags-fit)
 
 returns : tie.Need-returns Inv-loop μ-loop
 returns c =

@@ -29,10 +29,10 @@ part-is : (s : tie.Start) (i : ℕ) → part s i ≡ keyAt (s .args .l) (s .args
 part-is s i = key-part (s .args .l) (s .args .keys .now) i {k = lent s i} (omega arith)
 
 small : (s : tie.Start) (i : ℕ) → i < s .args .n → i * s .args .l .key + s .args .l .key ≤ 1475040
-small s i h = key-small i (s .pre .lays) (s .pre .ranged) (omega (arith, s .pre .listed))
+small s i h = key-small i (s .pre .0 .lays) (s .pre .0 .ranged) (omega (arith, s .pre .0 .listed))
 
 here : (s : tie.Start) (i : ℕ) → i < s .args .n → i * s .args .l .key + s .args .l .key ≤ length (s .args .keys .now)
-here s i h = key-inside i (s .pre .room) (omega (arith, s .pre .listed))
+here s i h = key-inside i (s .pre .0 .room) (omega (arith, s .pre .0 .listed))
 
 table-cells-requires : tie.Need-table-cells-requires
 table-cells-requires c κs = search needs
@@ -47,7 +47,7 @@ returns : tie.Need-returns
 returns c =
     let s = (c .before .before .before .before .before .before .before .before .before .before .before .before) in
     let a = s .args in
-    count-quiet (a .l) (a .z) (a .salt) (a .n) (a .flows .now) (B s) (R s) (s .pre) (c .before .before .before .table-cells .ensures)
+    count-quiet (a .l) (a .z) (a .salt) (a .n) (a .flows .now) (B s) (R s) (s .pre .0) (c .before .before .before .table-cells .ensures)
     (c .before .first-mark .ensures) (c .if1 .taken)
 
 mul-position : tie.Need-mul-position
@@ -72,7 +72,7 @@ returns-2 : tie.Need-returns-2
 returns-2 c =
     let s = (c .before .before .before .before .before .before .before .before .before .before .before .before .before .before .before .before) in
     let a = s .args in
-    count-far (a .l) (a .z) (a .salt) (a .n) (a .flows .now) (B s) (R s) (s .pre)
+    count-far (a .l) (a .z) (a .salt) (a .n) (a .flows .now) (B s) (R s) (s .pre .0)
     (c .before .before .before .before .before .before .before .table-cells .ensures)
     (c .before .before .before .before .before .first-mark .ensures) (c .before .before .before .before .if1 .left)
     (c .before .before .wide .ensures) (c .if2 .taken)
@@ -84,7 +84,7 @@ returns-3 : tie.Need-returns-3
 returns-3 c =
     let s = (c .before .before .before .before .before .before .before .before .before .before .before .before .before .before .before .before .before) in
     let a = s .args in
-    count-none (a .l) (a .z) (a .salt) (a .n) (a .flows .now) (B s) (R s) (s .pre)
+    count-none (a .l) (a .z) (a .salt) (a .n) (a .flows .now) (B s) (R s) (s .pre .0)
     (c .before .before .before .before .before .before .before .before .table-cells .ensures)
     (c .before .before .before .before .before .before .first-mark .ensures) (c .before .before .before .before .before .if1 .left)
     (c .before .before .before .wide .ensures) (c .before .if2 .left) (c .if3 .taken)
@@ -122,13 +122,13 @@ any-less-requires : tie.Need-any-less-requires
 any-less-requires c κs =
     let s = (c .before .before .before .before .before .before .before .before .before .before .before .before .before .before .before .before .before .before .before .before .before .before) in
     let a = s .args in (
-      s .pre .ranged .k-high,
+      s .pre .0 .ranged .k-high,
       λ i h. omega (
         arith,
-        places-within (a .l) (a .z) (s .pre .lays) (s .pre .ranged) (a .salt)
+        places-within (a .l) (a .z) (s .pre .0 .lays) (s .pre .0 .ranged) (a .salt)
             (part s (c .before .before .before .before .before .before .before .before .wide .result))
             (c .before .cells-of .ensures) i h,
-        s .pre .cells .packets-fit,
+        s .pre .0 .cells .packets-fit,
       ),
     )
 
@@ -142,7 +142,7 @@ returns-4 : tie.Need-returns-4
 returns-4 c =
     let s = (c .before .before .before .before .before .before .before .before .before .before .before .before .before .before .before .before .before .before .before .before .before .before .before .before) in
     let a = s .args in
-    count-less (a .l) (a .z) (a .salt) (a .n) (a .flows .now) (B s) (R s) (s .pre)
+    count-less (a .l) (a .z) (a .salt) (a .n) (a .flows .now) (B s) (R s) (s .pre .0)
     (c .before .before .before .before .before .before .before .before .before .before .before .before .before .before .before .table-cells .ensures) (c .before .before .before .before .before .before .before .before .before .before .before .before .before .first-mark .ensures) (c .before .before .before .before .before .before .before .before .before .before .before .before .if1 .left) (c .before .before .before .before .before .before .before .before .before .before .wide .ensures) (c .before .before .before .before .before .before .before .before .if2 .left)
     (c .before .before .before .before .before .before .before .if3 .left)
     (part-is s (c .before .before .before .before .before .before .before .before .before .before .wide .result))
@@ -152,20 +152,20 @@ tell-out-requires : tie.Need-tell-out-requires
 tell-out-requires c κs =
     let s = (c .before .before .before .before .before .before .before .before .before .before .before .before .before .before .before .before .before .before .before .before .before .before .before .before .before .before .before .before) in
     let a = s .args in (
-      s .pre .ranged .k-high,
+      s .pre .0 .ranged .k-high,
       λ i h. omega (
         arith,
-        places-within (a .l) (a .z) (s .pre .lays) (s .pre .ranged) (a .salt)
+        places-within (a .l) (a .z) (s .pre .0 .lays) (s .pre .0 .ranged) (a .salt)
             (part s (c .before .before .before .before .before .before .before .before .before .before .before .before .before .before .wide .result)) (c .before .before .before .before .before .before .before .cells-of .ensures) i h,
-        s .pre .cells .flows-fit,
+        s .pre .0 .cells .flows-fit,
       ),
-      rw (s .pre .cells .flows-fit) (s .pre .cells),
+      rw (s .pre .0 .cells .flows-fit) (s .pre .0 .cells),
     )
 
 set-count-requires : tie.Need-set-count-requires
 set-count-requires c κs =
     let s = (c .before .before .before .before .before .before .before .before .before .before .before .before .before .before .before .before .before .before .before .before .before .before .before .before .before .before .before .before .before .before .before .before .before .before .before .before .before .before .before) in
-    (omega (arith, s .pre .room .counts-fit, s .pre .listed, c .before .before .before .before .before .before .before .before .before .before .before .before .before .before .before .before .before .before .before .before .before .before .before .if2 .left), omega (arith, s .pre .room .flags-fit, s .pre .listed, c .before .before .before .before .before .before .before .before .before .before .before .before .before .before .before .before .before .before .before .before .before .before .before .if2 .left))
+    (omega (arith, s .pre .0 .room .counts-fit, s .pre .0 .listed, c .before .before .before .before .before .before .before .before .before .before .before .before .before .before .before .before .before .before .before .before .before .before .before .if2 .left), omega (arith, s .pre .0 .room .flags-fit, s .pre .0 .listed, c .before .before .before .before .before .before .before .before .before .before .before .before .before .before .before .before .before .before .before .before .before .before .before .if2 .left))
 
 same-length-6 : tie.Need-same-length-6
 same-length-6 c = search needs
@@ -189,7 +189,7 @@ returns-5 : tie.Need-returns-5
 returns-5 c =
     let s = (c .before .before .before .before .before .before .before .before .before .before .before .before .before .before .before .before .before .before .before .before .before .before .before .before .before .before .before .before .before .before .before .before .before .before .before .before .before .before .before .before .before .before .before .before) in
     let a = s .args in
-    count-told (a .l) (a .z) (a .salt) (a .n) (a .flows .now) (B s) (R s) (s .pre)
+    count-told (a .l) (a .z) (a .salt) (a .n) (a .flows .now) (B s) (R s) (s .pre .0)
     (c .before .before .before .before .before .before .before .before .before .before .before .before .before .before .before .before .before .before .before .before .before .before .before .before .before .before .before .before .before .before .before .before .before .before .before .table-cells .ensures) (c .before .before .before .before .before .before .before .before .before .before .before .before .before .before .before .before .before .before .before .before .before .before .before .before .before .before .before .before .before .before .before .before .before .first-mark .ensures) (c .before .before .before .before .before .before .before .before .before .before .before .before .before .before .before .before .before .before .before .before .before .before .before .before .before .before .before .before .before .before .before .before .if1 .left) (c .before .before .before .before .before .before .before .before .before .before .before .before .before .before .before .before .before .before .before .before .before .before .before .before .before .before .before .before .before .before .wide .ensures) (c .before .before .before .before .before .before .before .before .before .before .before .before .before .before .before .before .before .before .before .before .before .before .before .before .before .before .before .before .if2 .left)
     (c .before .before .before .before .before .before .before .before .before .before .before .before .before .before .before .before .before .before .before .before .before .before .before .before .before .before .before .if3 .left) (part-is s (c .before .before .before .before .before .before .before .before .before .before .before .before .before .before .before .before .before .before .before .before .before .before .before .before .before .before .before .before .before .before .wide .result)) (c .before .before .before .before .before .before .before .before .before .before .before .before .before .before .before .before .before .before .before .before .before .before .before .cells-of .ensures) (c .before .before .before .before .before .before .before .before .before .before .before .before .before .before .before .before .before .before .before .before .before .any-less .ensures) (c .before .before .before .before .before .before .before .before .before .before .before .before .before .before .before .before .before .before .before .before .if4 .left)
     (c .before .before .before .before .before .before .before .before .before .before .before .before .before .before .before .tell-out .ensures

@@ -6,6 +6,9 @@ use borrow.Author.Needs.{needs}
 use Rattle.encoder.proofs.take_key.Statement.{statement}
 use Rattle.encoder.proofs.take_key.Tie as tie
 
+after-salt-requires : tie.Need-after-salt-requires
+after-salt-requires c κs = search needs
+
 bits-of-requires : tie.Need-bits-of-requires
 bits-of-requires c κs = search needs
 
@@ -14,14 +17,14 @@ cells-of-requires c κs = search needs
 
 any-clear-requires : tie.Need-any-clear-requires
 any-clear-requires c κs =
-    let a = c .before .before .before .before .before .before .args in
-    let p = c .before .before .before .before .before .before .pre in
+    let a = c .before .before .before .before .before .before .before .args in
+    let p = c .before .before .before .before .before .before .before .pre in
     (p .1 .kf-high, rw (c .before .before .bits-of .ensures) (bits-inside (a .z) (p .1) (a .salt) (a .key .now) _ (p .2 .0)))
 
 any-full-requires : tie.Need-any-full-requires
 any-full-requires c κs =
-    let a = c .before .before .before .before .before .before .before .before .args in
-    let p = c .before .before .before .before .before .before .before .before .pre in (
+    let a = c .before .before .before .before .before .before .before .before .before .args in
+    let p = c .before .before .before .before .before .before .before .before .before .pre in (
       p .0,
       p .1 .k-high,
       rw (c .before .before .before .cells-of .ensures)
@@ -36,8 +39,8 @@ same-length-2 c = search needs
 
 returns : tie.Need-returns
 returns c =
-    let a = c .before .before .before .before .before .before .before .before .before .before .args in
-    let p = c .before .before .before .before .before .before .before .before .before .before .pre in
+    let a = c .before .before .before .before .before .before .before .before .before .before .before .args in
+    let p = c .before .before .before .before .before .before .before .before .before .before .before .pre in
     offer-full (a .l) (a .z) (p .0) (p .1) (a .salt) (a .key .now) (a .filter .now) (a .cells .now)
     (c .before .before .before .before .before .before .bits-of .result .at) (c .before .before .before .before .before .cells-of .result .at)
     (c .before .before .before .any-clear .result)
@@ -46,8 +49,8 @@ returns c =
 
 note-flow-requires : tie.Need-note-flow-requires
 note-flow-requires c κs =
-    let a = c .before .before .before .before .before .before .before .before .before .before .before .args in
-    let p = c .before .before .before .before .before .before .before .before .before .before .before .pre in (
+    let a = c .before .before .before .before .before .before .before .before .before .before .before .before .args in
+    let p = c .before .before .before .before .before .before .before .before .before .before .before .before .pre in (
       p .1 .kf-high,
       rw (c .before .before .before .before .before .before .before .bits-of .ensures)
           (bits-inside (a .z) (p .1) (a .salt) (a .key .now) _ (p .2 .0)),
@@ -55,8 +58,8 @@ note-flow-requires c κs =
 
 take-each-requires : tie.Need-take-each-requires
 take-each-requires c κs =
-    let a = c .before .before .before .before .before .before .before .before .before .before .before .before .before .before .before .args in
-    let p = c .before .before .before .before .before .before .before .before .before .before .before .before .before .before .before .pre in (
+    let a = c .before .before .before .before .before .before .before .before .before .before .before .before .before .before .before .before .args in
+    let p = c .before .before .before .before .before .before .before .before .before .before .before .before .before .before .before .before .pre in (
       p .0,
       p .1 .k-high,
       rw (c .before .before .before .before .before .before .before .before .before .before .cells-of .ensures)
@@ -72,8 +75,8 @@ same-length-4 c = search needs
 
 returns-2 : tie.Need-returns-2
 returns-2 c =
-    let a = c .before .before .before .before .before .before .before .before .before .before .before .before .before .before .before .before .before .before .args in
-    let p = c .before .before .before .before .before .before .before .before .before .before .before .before .before .before .before .before .before .before .pre in
+    let a = c .before .before .before .before .before .before .before .before .before .before .before .before .before .before .before .before .before .before .before .args in
+    let p = c .before .before .before .before .before .before .before .before .before .before .before .before .before .before .before .before .before .before .before .pre in
     offer-taken (a .l) (a .z) (p .0) (p .1) (a .salt) (a .key .now) (a .filter .now) (a .cells .now)
     (c .before .before .before .before .before .before .before .before .before .before .before .before .before .before .bits-of .result .at)
     (c .before .before .before .before .before .before .before .before .before .before .before .before .before .cells-of .result .at)
@@ -89,7 +92,7 @@ pub take-key-spec : {M : Type 1} → statement M
 take-key-spec =
     tie.close
     (tie.spec
-    bits-of-requires
+    after-salt-requires bits-of-requires
     cells-of-requires
     any-clear-requires
     any-full-requires

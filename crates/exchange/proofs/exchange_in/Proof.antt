@@ -11,12 +11,18 @@ use borrow.Author.Needs.{needs}
 use Rattle.exchange.proofs.exchange_in.Statement.{statement}
 use Rattle.exchange.proofs.exchange_in.Tie as tie
 
+after-salt-requires : tie.Need-after-salt-requires
+after-salt-requires c κs = tt
+
+after-salt-requires-2 : tie.Need-after-salt-requires-2
+after-salt-requires-2 c κs = tt
+
 slice-aggregate-test : tie.Need-slice-aggregate-test
 slice-aggregate-test c = refl
 
 test-requires : tie.Need-test-requires
 test-requires c κs =
-    ((c .before .before .before .before .before .before .before .before .before .before .before .before .before .before .before .before .before .before .before .before) .pre, refl)
+    ((c .before .before .before .before .before .before .before .before .before .before .before .before .before .before .before .before .before .before .before .before .before .before) .pre, refl, c .before .before .before .before .before .before .before .before .before .before .before .after-salt .ensures, c .before .before .before .before .before .before .before .before .before .before .after-salt2 .ensures)
 
 enum-told : tie.Need-enum-told
 enum-told c = search needs
@@ -50,7 +56,7 @@ same-length-9 c = refl
 
 returns : tie.Need-returns
 returns c =
-    let s = (c .before .before .before .before .before .before .before .before .before .before .before .before .before .before .before .before .before .before .before .before .before .before .before .before) in
+    let s = (c .before .before .before .before .before .before .before .before .before .before .before .before .before .before .before .before .before .before .before .before .before .before .before .before .before .before) in
     let a = s .args in
     let m = (memory (a .filter .now) (tab (a .xors .now) (a .flows .now) (a .unknowns .now) (a .positions .now) (a .marks .now)) (a .packets .now) (records (a .keys .now) (a .counts .now) (a .flags .now))) in
     kept-8 (a .l) (a .s) (a .t) m (c .before .before .before .test .ensures .0) (c .enum-told .given .1)
@@ -87,7 +93,7 @@ same-length-18 c = refl
 
 returns-2 : tie.Need-returns-2
 returns-2 c =
-    let s = (c .before .before .before .before .before .before .before .before .before .before .before .before .before .before .before .before .before .before .before .before .before .before .before .before) in
+    let s = (c .before .before .before .before .before .before .before .before .before .before .before .before .before .before .before .before .before .before .before .before .before .before .before .before .before .before) in
     let a = s .args in
     let m = (memory (a .filter .now) (tab (a .xors .now) (a .flows .now) (a .unknowns .now) (a .positions .now) (a .marks .now)) (a .packets .now) (records (a .keys .now) (a .counts .now) (a .flags .now))) in
     kept-16 (a .l) (a .s) (a .t) m (c .before .before .before .test .ensures .0) (c .enum-told2 .given .1)
@@ -124,7 +130,7 @@ same-length-27 c = refl
 
 returns-3 : tie.Need-returns-3
 returns-3 c =
-    let s = (c .before .before .before .before .before .before .before .before .before .before .before .before .before .before .before .before .before .before .before .before .before .before .before .before) in
+    let s = (c .before .before .before .before .before .before .before .before .before .before .before .before .before .before .before .before .before .before .before .before .before .before .before .before .before .before) in
     let a = s .args in
     let m = (memory (a .filter .now) (tab (a .xors .now) (a .flows .now) (a .unknowns .now) (a .positions .now) (a .marks .now)) (a .packets .now) (records (a .keys .now) (a .counts .now) (a .flags .now))) in
     kept-15 (a .l) (a .s) (a .t) m (c .before .before .before .test .ensures .0) (c .enum-told3 .given .1)
@@ -137,7 +143,7 @@ origin-requires c κs = tt
 
 place-after-requires : tie.Need-place-after-requires
 place-after-requires c κs =
-    let s = (c .before .before .before .before .before .before .before .before .before .before .before .before .before .before .before .before .before .before .before .before .before .before .before .before .before) in
+    let s = (c .before .before .before .before .before .before .before .before .before .before .before .before .before .before .before .before .before .before .before .before .before .before .before .before .before .before .before) in
     let a = s .args in
     let m = (memory (a .filter .now) (tab (a .xors .now) (a .flows .now) (a .unknowns .now) (a .positions .now) (a .marks .now)) (a .packets .now) (records (a .keys .now) (a .counts .now) (a .flags .now))) in
     let yes = sym (c .before .before .before .before .test .ensures .0) ∙ c .before .enum-told4 .given .1 in
@@ -146,7 +152,7 @@ place-after-requires c κs =
 
 place-after-requires-2 : tie.Need-place-after-requires-2
 place-after-requires-2 c κs =
-    let s = (c .before .before .before .before .before .before .before .before .before .before .before .before .before .before .before .before .before .before .before .before .before .before .before .before .before .before) in
+    let s = (c .before .before .before .before .before .before .before .before .before .before .before .before .before .before .before .before .before .before .before .before .before .before .before .before .before .before .before .before) in
     let a = s .args in
     let m = (memory (a .filter .now) (tab (a .xors .now) (a .flows .now) (a .unknowns .now) (a .positions .now) (a .marks .now)) (a .packets .now) (records (a .keys .now) (a .counts .now) (a .flags .now))) in
     let yes = sym (c .before .before .before .before .before .test .ensures .0) ∙ c .before .before .enum-told4 .given .1 in
@@ -156,61 +162,61 @@ place-after-requires-2 c κs =
 
 slice-aggregate-exchange-sides : tie.Need-slice-aggregate-exchange-sides
 slice-aggregate-exchange-sides c =
-    sym (c .before .before .before .before .before .before .before .before .before .before .before .before .before .before .before .before .test .kept .1 .1 .1 .1 .1 .1 .1 .1 .1 .1 .1 .1 .1 .0)
+    sym (c .before .before .before .before .before .before .before .before .before .before .before .before .before .before .before .before .test .kept .1 .1 .1 .1 .1 .1 .1 .1 .1 .1 .1 .1 .1 .1 .1 .0)
 
 exchange-sides-requires : tie.Need-exchange-sides-requires
 exchange-sides-requires c κs =
-    let s = (c .before .before .before .before .before .before .before .before .before .before .before .before .before .before .before .before .before .before .before .before .before .before .before .before .before .before .before .before .before .before .before .before .before .before .before .before .before) in
+    let s = (c .before .before .before .before .before .before .before .before .before .before .before .before .before .before .before .before .before .before .before .before .before .before .before .before .before .before .before .before .before .before .before .before .before .before .before .before .before .before .before) in
     let a = s .args in
     let m = (memory (a .filter .now) (tab (a .xors .now) (a .flows .now) (a .unknowns .now) (a .positions .now) (a .marks .now)) (a .packets .now) (records (a .keys .now) (a .counts .now) (a .flags .now))) in
     let yes = sym (c .before .before .before .before .before .before .before .before .before .before .before .before .before .before .before .before .test .ensures .0) ∙ c .before .before .before .before .before .before .before .before .before .before .before .before .before .enum-told4 .given .1 in
     let all = passed (a .l) (a .s) (a .t) m yes in
     let pi = c .before .before .before .before .before .before .before .before .before .before .before .place-after .ensures ∙ ap (placeAfter (a .l) (a .s .sizes)) (c .before .before .before .before .before .before .before .before .before .before .before .before .origin .ensures) in
     let ei = c .before .before .before .before .before .before .before .before .before .before .place-after2 .ensures ∙ ap (placeAfter (a .l) (a .t .sizes)) pi in
-    (call-both (a .l) (a .s) (a .t) m (s .pre) all pi ei (c .before .before .before .before .before .before .before .before .before .before .before .before .before .before .before .before .test .ensures .1 (c .before .before .before .before .before .before .before .before .before .before .before .before .before .enum-told4 .given .1)) (λ i. c .before .before .before .before .before .before .before .before .before .before .before .before .before .before .before .before .before .before .before .before .before .before .before .before .before .before .before .before .before .before .slice-known6 .given i .fits), filter-full (a .l) (a .s) (a .t) m (s .pre) all pi ei (c .before .before .before .before .before .before .before .before .before .before .before .before .before .before .before .before .test .ensures .1 (c .before .before .before .before .before .before .before .before .before .before .before .before .before .enum-told4 .given .1)))
+    (call-both (a .l) (a .s) (a .t) m (s .pre) all pi ei (c .before .before .before .before .before .before .before .before .before .before .before .before .before .before .before .before .test .ensures .1 (c .before .before .before .before .before .before .before .before .before .before .before .before .before .enum-told4 .given .1)) (λ i. c .before .before .before .before .before .before .before .before .before .before .before .before .before .before .before .before .before .before .before .before .before .before .before .before .before .before .before .before .before .before .before .before .slice-known6 .given i .fits), filter-full (a .l) (a .s) (a .t) m (s .pre) all pi ei (c .before .before .before .before .before .before .before .before .before .before .before .before .before .before .before .before .test .ensures .1 (c .before .before .before .before .before .before .before .before .before .before .before .before .before .enum-told4 .given .1)), c .before .before .before .before .before .before .before .before .before .before .before .before .before .before .before .before .before .before .before .before .before .before .before .before .before .before .before .before .after-salt .ensures, c .before .before .before .before .before .before .before .before .before .before .before .before .before .before .before .before .before .before .before .before .before .before .before .before .before .before .before .after-salt2 .ensures)
 
 answer-of-requires : tie.Need-answer-of-requires
 answer-of-requires c κs = tt
 
 same-length-28 : tie.Need-same-length-28
 same-length-28 c =
-    c .before .before .before .before .before .before .before .before .before .before .before .before .before .before .before .before .before .before .before .before .exchange-sides .kept .1 .1 .1 .1 .1 .1 .0
+    c .before .before .before .before .before .before .before .before .before .before .before .before .before .before .before .before .before .before .before .before .exchange-sides .kept .1 .1 .1 .1 .1 .1 .1 .1 .0
 
 same-length-29 : tie.Need-same-length-29
 same-length-29 c =
-    c .before .before .before .before .before .before .before .before .before .before .before .before .before .before .before .before .before .before .before .before .exchange-sides .kept .1 .1 .1 .1 .1 .1 .1 .0
+    c .before .before .before .before .before .before .before .before .before .before .before .before .before .before .before .before .before .before .before .before .exchange-sides .kept .1 .1 .1 .1 .1 .1 .1 .1 .1 .0
 
 same-length-30 : tie.Need-same-length-30
 same-length-30 c =
-    c .before .before .before .before .before .before .before .before .before .before .before .before .before .before .before .before .before .before .before .before .exchange-sides .kept .1 .1 .1 .1 .1 .1 .1 .1 .0
+    c .before .before .before .before .before .before .before .before .before .before .before .before .before .before .before .before .before .before .before .before .exchange-sides .kept .1 .1 .1 .1 .1 .1 .1 .1 .1 .1 .0
 
 same-length-31 : tie.Need-same-length-31
 same-length-31 c =
-    c .before .before .before .before .before .before .before .before .before .before .before .before .before .before .before .before .before .before .before .before .exchange-sides .kept .1 .1 .1 .1 .1 .1 .1 .1 .1 .0
+    c .before .before .before .before .before .before .before .before .before .before .before .before .before .before .before .before .before .before .before .before .exchange-sides .kept .1 .1 .1 .1 .1 .1 .1 .1 .1 .1 .1 .0
 
 same-length-32 : tie.Need-same-length-32
 same-length-32 c =
-    c .before .before .before .before .before .before .before .before .before .before .before .before .before .before .before .before .before .before .before .before .exchange-sides .kept .1 .1 .1 .1 .1 .1 .1 .1 .1 .1 .0
+    c .before .before .before .before .before .before .before .before .before .before .before .before .before .before .before .before .before .before .before .before .exchange-sides .kept .1 .1 .1 .1 .1 .1 .1 .1 .1 .1 .1 .1 .0
 
 same-length-33 : tie.Need-same-length-33
 same-length-33 c =
-    c .before .before .before .before .before .before .before .before .before .before .before .before .before .before .before .before .before .before .before .before .exchange-sides .kept .1 .1 .1 .1 .1 .1 .1 .1 .1 .1 .1 .0
+    c .before .before .before .before .before .before .before .before .before .before .before .before .before .before .before .before .before .before .before .before .exchange-sides .kept .1 .1 .1 .1 .1 .1 .1 .1 .1 .1 .1 .1 .1 .0
 
 same-length-34 : tie.Need-same-length-34
 same-length-34 c =
-    c .before .before .before .before .before .before .before .before .before .before .before .before .before .before .before .before .before .before .before .before .exchange-sides .kept .1 .1 .1 .1 .1 .1 .1 .1 .1 .1 .1 .1 .0
+    c .before .before .before .before .before .before .before .before .before .before .before .before .before .before .before .before .before .before .before .before .exchange-sides .kept .1 .1 .1 .1 .1 .1 .1 .1 .1 .1 .1 .1 .1 .1 .0
 
 same-length-35 : tie.Need-same-length-35
 same-length-35 c =
-    c .before .before .before .before .before .before .before .before .before .before .before .before .before .before .before .before .before .before .before .before .exchange-sides .kept .1 .1 .1 .1 .1 .1 .1 .1 .1 .1 .1 .1 .1 .0
+    c .before .before .before .before .before .before .before .before .before .before .before .before .before .before .before .before .before .before .before .before .exchange-sides .kept .1 .1 .1 .1 .1 .1 .1 .1 .1 .1 .1 .1 .1 .1 .1 .0
 
 same-length-36 : tie.Need-same-length-36
 same-length-36 c =
-    c .before .before .before .before .before .before .before .before .before .before .before .before .before .before .before .before .before .before .before .before .exchange-sides .kept .1 .1 .1 .1 .1 .1 .1 .1 .1 .1 .1 .1 .1 .1 .0
+    c .before .before .before .before .before .before .before .before .before .before .before .before .before .before .before .before .before .before .before .before .exchange-sides .kept .1 .1 .1 .1 .1 .1 .1 .1 .1 .1 .1 .1 .1 .1 .1 .1 .0
 
 returns-4 : tie.Need-returns-4
 returns-4 c =
-    let s = (c .before .before .before .before .before .before .before .before .before .before .before .before .before .before .before .before .before .before .before .before .before .before .before .before .before .before .before .before .before .before .before .before .before .before .before .before .before .before .before .before .before .before .before .before .before .before .before .before .before .before .before .before .before .before .before .before .before .before) in
+    let s = (c .before .before .before .before .before .before .before .before .before .before .before .before .before .before .before .before .before .before .before .before .before .before .before .before .before .before .before .before .before .before .before .before .before .before .before .before .before .before .before .before .before .before .before .before .before .before .before .before .before .before .before .before .before .before .before .before .before .before .before .before) in
     let a = s .args in
     let m = (memory (a .filter .now) (tab (a .xors .now) (a .flows .now) (a .unknowns .now) (a .positions .now) (a .marks .now)) (a .packets .now) (records (a .keys .now) (a .counts .now) (a .flags .now))) in
     let yes = sym (c .before .before .before .before .before .before .before .before .before .before .before .before .before .before .before .before .before .before .before .before .before .before .before .before .before .before .before .before .before .before .before .before .before .before .before .before .before .test .ensures .0) ∙ c .before .before .before .before .before .before .before .before .before .before .before .before .before .before .before .before .before .before .before .before .before .before .before .before .before .before .before .before .before .before .before .before .before .before .enum-told4 .given .1 in
@@ -223,7 +229,7 @@ pub exchange-in-spec : {M : Type 1} → statement M
 exchange-in-spec =
     tie.close
     (tie.spec
-    slice-aggregate-test
+    after-salt-requires after-salt-requires-2 slice-aggregate-test
     test-requires
     enum-told
     same-length

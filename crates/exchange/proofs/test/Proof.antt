@@ -66,10 +66,11 @@ is-session-part-requires c κs =
     let s = (c .before .before .before .before .before .before .before .before .before .before .before .before .before .before .before .before .before .before .before .before .before .before .before) in
     let a = s .args in
     let m = (memory (a .filter .now) (tab (a .xors .now) (a .flows .now) (a .unknowns .now) (a .positions .now) (a .marks .now)) (a .packets .now) (records (a .keys .now) (a .counts .now) (a .flags .now))) in
-    need-a (a .l) (a .s) (a .t) m (s .pre .0) (held (c .before .before .before .before .before .before .before .before .before .in-range .ensures) (c .before .before .before .before .before .before .before .before .if1 .left)) (held (c .before .before .before .before .before .before .before .in-range2 .ensures) (c .before .before .before .before .before .before .if2 .left)) (c .before .before .before .before .before .origin .ensures) (c .before .before .before .before .place-after .ensures) (c .before .before .before .place-after2 .ensures) (held (c .before .before .areas-fit .ensures) (c .before .if3 .left)) (a .seen .now) (s .pre .1)
+    let four = need-a (a .l) (a .s) (a .t) m (s .pre .0) (held (c .before .before .before .before .before .before .before .before .before .in-range .ensures) (c .before .before .before .before .before .before .before .before .if1 .left)) (held (c .before .before .before .before .before .before .before .in-range2 .ensures) (c .before .before .before .before .before .before .if2 .left)) (c .before .before .before .before .before .origin .ensures) (c .before .before .before .before .place-after .ensures) (c .before .before .before .place-after2 .ensures) (held (c .before .before .areas-fit .ensures) (c .before .if3 .left)) (a .seen .now) (s .pre .1) in
+    (four .0, four .1, four .2, four .3, s .pre .2)
 
 same-length : tie.Need-same-length
-same-length c = c .before .before .before .is-session-part .kept .1 .1 .1 .1 .1 .1 .1 .1 .1 .1 .1 .1 .1 .1 .0
+same-length c = c .before .before .before .is-session-part .kept .1 .1 .1 .1 .1 .1 .1 .1 .1 .1 .1 .1 .1 .1 .1 .0
 
 returns-4 : tie.Need-returns-4
 returns-4 c =
@@ -83,11 +84,12 @@ is-session-part-requires-2 c κs =
     let s = (c .before .before .before .before .before .before .before .before .before .before .before .before .before .before .before .before .before .before .before .before .before .before .before .before .before .before .before .before) in
     let a = s .args in
     let m = (memory (a .filter .now) (tab (a .xors .now) (a .flows .now) (a .unknowns .now) (a .positions .now) (a .marks .now)) (a .packets .now) (records (a .keys .now) (a .counts .now) (a .flags .now))) in
-    need-b (a .l) (a .s) (a .t) m (s .pre .0) (held (c .before .before .before .before .before .before .before .before .before .before .before .before .before .before .in-range .ensures) (c .before .before .before .before .before .before .before .before .before .before .before .before .before .if1 .left)) (held (c .before .before .before .before .before .before .before .before .before .before .before .before .in-range2 .ensures) (c .before .before .before .before .before .before .before .before .before .before .before .if2 .left)) (c .before .before .before .before .before .before .before .before .before .before .origin .ensures) (c .before .before .before .before .before .before .before .before .before .place-after .ensures) (c .before .before .before .before .before .before .before .before .place-after2 .ensures) (held (c .before .before .before .before .before .before .before .areas-fit .ensures) (c .before .before .before .before .before .before .if3 .left)) (a .seen .now) (s .pre .1) (c .before .before .before .before .is-session-part .ensures .0) (held refl (c .before .if4 .left)) (c .before .before .before .before .is-session-part .ensures .1)
+    let four = need-b (a .l) (a .s) (a .t) m (s .pre .0) (held (c .before .before .before .before .before .before .before .before .before .before .before .before .before .before .in-range .ensures) (c .before .before .before .before .before .before .before .before .before .before .before .before .before .if1 .left)) (held (c .before .before .before .before .before .before .before .before .before .before .before .before .in-range2 .ensures) (c .before .before .before .before .before .before .before .before .before .before .before .if2 .left)) (c .before .before .before .before .before .before .before .before .before .before .origin .ensures) (c .before .before .before .before .before .before .before .before .before .place-after .ensures) (c .before .before .before .before .before .before .before .before .place-after2 .ensures) (held (c .before .before .before .before .before .before .before .areas-fit .ensures) (c .before .before .before .before .before .before .if3 .left)) (a .seen .now) (s .pre .1) (c .before .before .before .before .is-session-part .ensures .0) (held refl (c .before .if4 .left)) (c .before .before .before .before .is-session-part .ensures .1) in
+    (four .0, four .1, four .2, four .3, s .pre .3)
 
 same-length-2 : tie.Need-same-length-2
 same-length-2 c =
-    c .before .before .before .is-session-part2 .kept .1 .1 .1 .1 .1 .1 .1 .1 .1 .1 .1 .1 .1 .1 .0 ∙ c .before .before .before .before .before .before .before .before .is-session-part .kept .1 .1 .1 .1 .1 .1 .1 .1 .1 .1 .1 .1 .1 .1 .0
+    c .before .before .before .is-session-part2 .kept .1 .1 .1 .1 .1 .1 .1 .1 .1 .1 .1 .1 .1 .1 .1 .0 ∙ c .before .before .before .before .before .before .before .before .is-session-part .kept .1 .1 .1 .1 .1 .1 .1 .1 .1 .1 .1 .1 .1 .1 .1 .0
 
 returns-5 : tie.Need-returns-5
 returns-5 c =
@@ -98,7 +100,7 @@ returns-5 c =
 
 same-length-3 : tie.Need-same-length-3
 same-length-3 c =
-    c .before .before .before .before .before .before .is-session-part2 .kept .1 .1 .1 .1 .1 .1 .1 .1 .1 .1 .1 .1 .1 .1 .0 ∙ c .before .before .before .before .before .before .before .before .before .before .before .is-session-part .kept .1 .1 .1 .1 .1 .1 .1 .1 .1 .1 .1 .1 .1 .1 .0
+    c .before .before .before .before .before .before .is-session-part2 .kept .1 .1 .1 .1 .1 .1 .1 .1 .1 .1 .1 .1 .1 .1 .1 .0 ∙ c .before .before .before .before .before .before .before .before .before .before .before .is-session-part .kept .1 .1 .1 .1 .1 .1 .1 .1 .1 .1 .1 .1 .1 .1 .1 .0
 
 returns-6 : tie.Need-returns-6
 returns-6 c =
@@ -109,7 +111,7 @@ returns-6 c =
 
 same-length-4 : tie.Need-same-length-4
 same-length-4 c =
-    c .before .before .before .before .before .before .is-session-part2 .kept .1 .1 .1 .1 .1 .1 .1 .1 .1 .1 .1 .1 .1 .1 .0 ∙ c .before .before .before .before .before .before .before .before .before .before .before .is-session-part .kept .1 .1 .1 .1 .1 .1 .1 .1 .1 .1 .1 .1 .1 .1 .0
+    c .before .before .before .before .before .before .is-session-part2 .kept .1 .1 .1 .1 .1 .1 .1 .1 .1 .1 .1 .1 .1 .1 .1 .0 ∙ c .before .before .before .before .before .before .before .before .before .before .before .is-session-part .kept .1 .1 .1 .1 .1 .1 .1 .1 .1 .1 .1 .1 .1 .1 .1 .0
 
 returns-7 : tie.Need-returns-7
 returns-7 c =

@@ -27,7 +27,7 @@ room : (s : tie.Start) {r : Handed} → r ≡ answerOf (s .args .l) (s .args .z)
     → r ≡ Taken → s .args .n < 2 * tableCells (s .args .l) (s .args .z)
 room s e q =
     let a = s .args in
-    taken-room (a .l) (a .z) (a .salt) (a .n) (a .handed) (a .key .now) (a .filter .now) (T s) (R s) (a .seen .now) (s .pre) e q
+    taken-room (a .l) (a .z) (a .salt) (a .n) (a .handed) (a .key .now) (a .filter .now) (T s) (R s) (a .seen .now) (s .pre .0) e q
 
 cells-of-requires : tie.Need-cells-of-requires
 cells-of-requires c κs = search needs
@@ -35,16 +35,17 @@ cells-of-requires c κs = search needs
 answer-requires : tie.Need-answer-requires
 answer-requires c κs =
     let s = (c .before .before .before .before .before .before .before .before .before .before .before .before .before .before .before) in
-    let f = s .pre .steady .fits in (
+    let f = s .pre .0 .steady .fits in (
       f .table .lays,
       f .table .ranged,
       c .before .before .before .cells-of .ensures,
-      s .pre .key-fits,
-      s .pre .filter-fits,
+      s .pre .0 .key-fits,
+      s .pre .0 .filter-fits,
       f .table .flows-fit,
       keys-inside (s .args .n) (f .room) (f .listed),
       listed-few (s .args .l) (s .args .z) (s .args .salt) (s .args .n) (T s) (R s) (s .args .seen .now) f,
       f .covers,
+      s .pre .1,
     )
 
 enum-told : tie.Need-enum-told
@@ -63,43 +64,44 @@ returns : tie.Need-returns
 returns c =
     let s = (c .before .before .before .before .before .before .before .before .before .before .before .before .before .before .before .before .before) in
     let a = s .args in
-    hand-other (a .l) (a .z) (a .salt) (a .n) (a .key .now) (a .filter .now) (T s) (R s) (a .seen .now) (s .pre .handed-is)
+    hand-other (a .l) (a .z) (a .salt) (a .n) (a .key .now) (a .filter .now) (T s) (R s) (a .seen .now) (s .pre .0 .handed-is)
     (c .before .answer .ensures) (c .match .keys2)
 
 append-requires : tie.Need-append-requires
 append-requires c κs =
     let s = (c .before .before .before .before .before .before .before .before .before .before .before .before .before .before .before .before .before .before .before .before .before) in
-    let r = s .pre .steady .fits .room in
+    let r = s .pre .0 .steady .fits .room in
     let h = room s (c .before .before .before .before .before .answer .ensures) (c .before .before .before .enum-told .given .1) in
-    (s .pre .key-fits, key-inside (s .args .n) r h, omega (arith, r .counts-fit), omega (arith, r .flags-fit))
+    (s .pre .0 .key-fits, key-inside (s .args .n) r h, omega (arith, r .counts-fit), omega (arith, r .flags-fit))
 
 bucket-requires : tie.Need-bucket-requires
 bucket-requires c κs =
     let s = (c .before .before .before .before .before .before .before .before .before .before .before .before .before .before .before .before .before .before .before .before .before .before .before .before .before .before .before .before .before) in
     let a = s .args in
-    first-two (a .l) (a .z) (a .salt) (a .n) (T s) (R s) (a .seen .now) (s .pre .steady .fits) (a .key .now)
+    first-two (a .l) (a .z) (a .salt) (a .n) (T s) (R s) (a .seen .now) (s .pre .0 .steady .fits) (a .key .now)
     (c .before .before .before .before .before .before .before .before .before .before .before .before .before .before .before .before .before .cells-of .ensures)
 
 link-requires : tie.Need-link-requires
 link-requires c κs =
     let s = (c .before .before .before .before .before .before .before .before .before .before .before .before .before .before .before .before .before .before .before .before .before .before .before .before .before .before .before .before .before .before) in
     let a = s .args in (
-      s .pre .steady .fits .covers .sized,
+      s .pre .0 .steady .fits .covers .sized,
       omega (arith, c .bucket .ensures),
-      omega (arith, room s (c .before .before .before .before .before .before .before .before .before .before .before .before .before .before .answer .ensures) (c .before .before .before .before .before .before .before .before .before .before .before .before .enum-told .given .1), table-high (a .l) (a .z) (s .pre .steady .fits .table .lays) (s .pre .steady .fits .table .ranged)),
+      omega (arith, room s (c .before .before .before .before .before .before .before .before .before .before .before .before .before .before .answer .ensures) (c .before .before .before .before .before .before .before .before .before .before .before .before .enum-told .given .1), table-high (a .l) (a .z) (s .pre .0 .steady .fits .table .lays) (s .pre .0 .steady .fits .table .ranged)),
     )
 
 cast-take-out : tie.Need-cast-take-out
 cast-take-out c =
     let s = (c .before .before .before .before .before .before .before .before .before .before .before .before .before .before .before .before .before .before .before .before .before .before .before .before .before .before .before .before .before .before .before .before .before) in
-    omega (arith, s .pre .steady .fits .listed, table-high (s .args .l) (s .args .z) (s .pre .steady .fits .table .lays) (s .pre .steady .fits .table .ranged))
+    omega (arith, s .pre .0 .steady .fits .listed, table-high (s .args .l) (s .args .z) (s .pre .0 .steady .fits .table .lays) (s .pre .0 .steady .fits .table .ranged))
 
 take-out-requires : tie.Need-take-out-requires
 take-out-requires c κs =
     let s = (c .before .before .before .before .before .before .before .before .before .before .before .before .before .before .before .before .before .before .before .before .before .before .before .before .before .before .before .before .before .before .before .before .before .before .before .before .before .before) in (
-      s .pre .steady .fits .table,
+      s .pre .0 .steady .fits .table,
       c .before .before .before .before .before .before .before .before .before .before .before .before .before .before .before .before .before .before .before .before .before .before .before .before .before .before .cells-of .ensures,
-      s .pre .key-fits,
+      s .pre .0 .key-fits,
+      s .pre .1,
     )
 
 same-length-4 : tie.Need-same-length-4
@@ -133,7 +135,7 @@ returns-2 : tie.Need-returns-2
 returns-2 c =
     let s = (c .before .before .before .before .before .before .before .before .before .before .before .before .before .before .before .before .before .before .before .before .before .before .before .before .before .before .before .before .before .before .before .before .before .before .before .before .before .before .before .before .before .before .before .before .before .before .before .before .before) in
     let a = s .args in
-    hand-taken (a .l) (a .z) (a .salt) (a .n) (a .key .now) (a .filter .now) (T s) (R s) (a .seen .now) (s .pre .handed-is)
+    hand-taken (a .l) (a .z) (a .salt) (a .n) (a .key .now) (a .filter .now) (T s) (R s) (a .seen .now) (s .pre .0 .handed-is)
     (c .before .before .before .before .before .before .before .before .before .before .before .before .before .before .before .before .before .before .before .before .before .before .before .before .before .before .before .before .before .before .before .before .before .answer .ensures)
     (c .before .before .before .before .before .before .before .before .before .before .before .before .before .before .before .before .before .before .before .before .before .before .before .before .before .before .before .before .before .before .before .enum-told .given .1) (c .before .before .before .before .before .before .before .before .before .before .before .before .before .before .before .before .before .before .before .before .before .before .before .before .before .before .before .before .before .before .before .before .before .before .before .before .before .cells-of .ensures) (c .before .before .before .before .before .before .before .before .before .before .before .before .before .before .before .before .before .before .before .before .before .before .before .before .before .before .before .append .ensures) (c .before .before .before .before .before .before .before .before .before .before .before .before .before .before .before .before .before .before .before .bucket .ensures) (c .before .before .before .before .before .before .before .before .before .before .before .before .before .before .before .before .before .before .link .ensures) (c .before .before .before .before .before .before .before .before .before .before .take-out .ensures)
 

@@ -9,19 +9,19 @@ use Rattle.hash.proofs.eight_hashes.Statement.{statement}
 use Rattle.hash.proofs.eight_hashes.Tie as tie
 
 abbrev Inv-loop : tie.InvT-loop
-Inv-loop salt role key low₀ high₀ i₀ low high i =
+Inv-loop key low₀ high₀ i₀ low high i =
     (i ≤ length key)
     × (absorbAll (states low) (drop i key) ≡ absorbAll (states low₀) key)
     × (absorbAll (states high) (drop i key) ≡ absorbAll (states high₀) key)
 
 abbrev μ-loop : tie.MeasureT-loop
-μ-loop salt role key low₀ high₀ i₀ low high i = length key - i
+μ-loop key low₀ high₀ i₀ low high i = length key - i
 
-seeded-requires : tie.Need-seeded-requires Inv-loop μ-loop
-seeded-requires c κs = omega arith
+indexed-requires : tie.Need-indexed-requires Inv-loop μ-loop
+indexed-requires c κs = omega arith
 
-seeded-requires-2 : tie.Need-seeded-requires-2 Inv-loop μ-loop
-seeded-requires-2 c κs = omega arith
+indexed-requires-2 : tie.Need-indexed-requires-2 Inv-loop μ-loop
+indexed-requires-2 c κs = omega arith
 
 loop-holds : tie.Need-loop-holds Inv-loop μ-loop
 loop-holds c = (omega arith, refl, refl)
@@ -56,8 +56,8 @@ returns c =
     let a = c .before .before .before .before .before .args in
     let key = a .key .now in
     let l = c .before .loop in (
-      sym (all-none (states (l .low)) key (l .i) (omega arith)) ∙ l .inv .1 ∙ all-hashed (a .salt) (a .role) 0 key (c .before .before .before .seeded .ensures),
-      sym (all-none (states (l .high)) key (l .i) (omega arith)) ∙ l .inv .2 ∙ all-hashed (a .salt) (a .role) 4 key (c .before .before .seeded2 .ensures),
+      sym (all-none (states (l .low)) key (l .i) (omega arith)) ∙ l .inv .1 ∙ all-hashed (a .f .state) 0 key (c .before .before .before .indexed .ensures),
+      sym (all-none (states (l .high)) key (l .i) (omega arith)) ∙ l .inv .2 ∙ all-hashed (a .f .state) 4 key (c .before .before .indexed2 .ensures),
     )
 
 pub eight-hashes-spec : {M : Type 1} → statement M
@@ -66,8 +66,8 @@ eight-hashes-spec =
     (tie.spec
     Inv-loop
     μ-loop
-    seeded-requires
-    seeded-requires-2
+    indexed-requires
+    indexed-requires-2
     loop-holds
     shared-slice-read-b
     byte-requires

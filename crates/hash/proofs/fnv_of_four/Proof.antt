@@ -10,15 +10,15 @@ use Rattle.hash.proofs.fnv_of_four.Statement.{statement}
 use Rattle.hash.proofs.fnv_of_four.Tie as tie
 
 abbrev Inv-loop : tie.InvT-loop
-Inv-loop a b c d h₀ i₀ h i =
+Inv-loop a b c d f₀ i₀ f i =
     (i ≤ length a)
-    × (absorb (h .a .state) (drop i a) ≡ fnv a)
-    × (absorb (h .b .state) (drop i b) ≡ fnv b)
-    × (absorb (h .c .state) (drop i c) ≡ fnv c)
-    × (absorb (h .d .state) (drop i d) ≡ fnv d)
+    × (absorb (f .a .state) (drop i a) ≡ fnv a)
+    × (absorb (f .b .state) (drop i b) ≡ fnv b)
+    × (absorb (f .c .state) (drop i c) ≡ fnv c)
+    × (absorb (f .d .state) (drop i d) ≡ fnv d)
 
 abbrev μ-loop : tie.MeasureT-loop
-μ-loop a b c d h₀ i₀ h i = length a - i
+μ-loop a b c d f₀ i₀ f i = length a - i
 
 new-requires : tie.Need-new-requires Inv-loop μ-loop
 new-requires c κs = tt
@@ -56,10 +56,10 @@ loop-again c =
     let l = c .before .before .before .before .before .before .loop in
     let e = same-four (c .each .ensures) in (
       omega arith,
-      chain-on (s .a .now) (l .i) (l .h .a .state) (omega arith) (l .inv .1) (e .0),
-      chain-on (s .b .now) (l .i) (l .h .b .state) (omega arith) (l .inv .2) (e .1),
-      chain-on (s .c .now) (l .i) (l .h .c .state) (omega arith) (l .inv .3) (e .2),
-      chain-on (s .d .now) (l .i) (l .h .d .state) (omega arith) (l .inv .4) (e .3),
+      chain-on (s .a .now) (l .i) (l .f .a .state) (omega arith) (l .inv .1) (e .0),
+      chain-on (s .b .now) (l .i) (l .f .b .state) (omega arith) (l .inv .2) (e .1),
+      chain-on (s .c .now) (l .i) (l .f .c .state) (omega arith) (l .inv .3) (e .2),
+      chain-on (s .d .now) (l .i) (l .f .d .state) (omega arith) (l .inv .4) (e .3),
     )
 
 returns : tie.Need-returns Inv-loop μ-loop
@@ -67,8 +67,8 @@ returns c =
     let s = c .before .before .before .before .before .before .before .args in
     let l = c .before .loop in
     four-same
-    (chain-end (s .a .now) (l .i) (l .h .a .state) (omega arith) (l .inv .1)) (chain-end (s .b .now) (l .i) (l .h .b .state) (omega arith) (l .inv .2))
-    (chain-end (s .c .now) (l .i) (l .h .c .state) (omega arith) (l .inv .3)) (chain-end (s .d .now) (l .i) (l .h .d .state) (omega arith) (l .inv .4))
+    (chain-end (s .a .now) (l .i) (l .f .a .state) (omega arith) (l .inv .1)) (chain-end (s .b .now) (l .i) (l .f .b .state) (omega arith) (l .inv .2))
+    (chain-end (s .c .now) (l .i) (l .f .c .state) (omega arith) (l .inv .3)) (chain-end (s .d .now) (l .i) (l .f .d .state) (omega arith) (l .inv .4))
 
 pub fnv-of-four-spec : {M : Type 1} → statement M
 fnv-of-four-spec =

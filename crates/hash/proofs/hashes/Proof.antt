@@ -5,16 +5,16 @@ use borrow.Author.Needs.{needs}
 use Rattle.hash.proofs.hashes.Statement.{statement}
 use Rattle.hash.proofs.hashes.Tie as tie
 
-seeded-requires : tie.Need-seeded-requires
-seeded-requires c κs = search needs
+indexed-requires : tie.Need-indexed-requires
+indexed-requires c κs = search needs
 
 bytes-requires : tie.Need-bytes-requires
 bytes-requires c κs = search needs
 
 returns : tie.Need-returns
 returns c =
-    c .bytes .ensures ∙ all-hashed (c .before .before .before .args .salt) (c .before .before .before .args .role)
-    (c .before .before .before .args .first) (c .before .before .before .args .key .now) (c .before .seeded .ensures)
+    let a = c .before .before .before .args in
+    c .bytes .ensures ∙ all-hashed (a .f .state) (a .first) (a .key .now) (c .before .indexed .ensures)
 
 pub hashes-spec : {M : Type 1} → statement M
-hashes-spec = tie.close (tie.spec seeded-requires bytes-requires returns)
+hashes-spec = tie.close (tie.spec indexed-requires bytes-requires returns)

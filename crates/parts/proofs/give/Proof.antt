@@ -14,19 +14,20 @@ handed-in-requires : tie.Need-handed-in-requires
 handed-in-requires c κs =
     let s = (c .before .before .before .before .before .before .before .before .before .before .before) in
     let a = s .args in (
-      s .pre .inside .records-up,
-      s .pre .inside .flags-in,
+      s .pre .0 .inside .records-up,
+      s .pre .0 .inside .flags-in,
       listed-in (a .l) (a .z) (a .salt) (a .a) (a .e) (a .n) (a .from) (a .m) (a .filter .now)
-          (tab (a .xors .now) (a .flows .now) (a .unknowns .now) (a .positions .now) (a .marks .now)) (records (a .keys .now) (a .counts .now) (a .flags .now)) (a .seen .now) (s .pre),
+          (tab (a .xors .now) (a .flows .now) (a .unknowns .now) (a .positions .now) (a .marks .now)) (records (a .keys .now) (a .counts .now) (a .flags .now)) (a .seen .now) (s .pre .0),
     )
 
 give-each-requires : tie.Need-give-each-requires
 give-each-requires c κs =
     let s = (c .before .before .before .before .before .before .before .before .before .before .before .before .before .before .before .before .before .before .before .before .before) in
     let a = s .args in (
-      s .pre,
+      s .pre .0,
       c .before .before .before .before .before .before .before .before .before .handed-in .ensures .0 ∙ handed-part (a .l) (a .z) (a .salt) (a .a) (a .e) (a .n) (a .from) (a .m) (a .filter .now)
           (tab (a .xors .now) (a .flows .now) (a .unknowns .now) (a .positions .now) (a .marks .now)) (records (a .keys .now) (a .counts .now) (a .flags .now)) (a .seen .now),
+      s .pre .1,
     )
 
 same-length : tie.Need-same-length

@@ -14,12 +14,12 @@ use Rattle.handing.proofs.taken_by.Reads as taken-by-reads
 use Rattle.handing.proofs.twelve_by.Reads as twelve-by-reads
 
 abbrev Inv-loop : tie.InvT-loop
-Inv-loop l z salt a e n handed from m filter xors₀ flows₀ unknowns₀ positions₀ marks₀ keys₀ counts₀ flags₀ seen₀ w listed₀ over₀ twelves₀ at₀ i₀ xors flows unknowns positions marks keys counts flags seen listed over twelves at i =
+Inv-loop l z salt h a e n handed from m filter xors₀ flows₀ unknowns₀ positions₀ marks₀ keys₀ counts₀ flags₀ seen₀ w listed₀ over₀ twelves₀ at₀ i₀ xors flows unknowns positions marks keys counts flags seen listed over twelves at i =
     Giving l z salt a e n from m filter (tab xors₀ flows₀ unknowns₀ positions₀ marks₀) (records keys₀ counts₀ flags₀) seen₀ i listed over twelves at
     (tab xors flows unknowns positions marks) (records keys counts flags) seen
 
 abbrev μ-loop : tie.MeasureT-loop
-μ-loop l z salt a e n handed from m filter xors₀ flows₀ unknowns₀ positions₀ marks₀ keys₀ counts₀ flags₀ seen₀ w listed₀ over₀ twelves₀ at₀ i₀ xors flows unknowns positions marks keys counts flags seen listed over twelves at i = m - i
+μ-loop l z salt h a e n handed from m filter xors₀ flows₀ unknowns₀ positions₀ marks₀ keys₀ counts₀ flags₀ seen₀ w listed₀ over₀ twelves₀ at₀ i₀ xors flows unknowns positions marks keys counts flags seen listed over twelves at i = m - i
 
 loop-holds : tie.Need-loop-holds Inv-loop μ-loop
 loop-holds c =
@@ -44,6 +44,7 @@ hand-next-requires c κs =
           (tab (a .xors .now) (a .flows .now) (a .unknowns .now) (a .positions .now) (a .marks .now)) (records (a .keys .now) (a .counts .now) (a .flags .now)) (a .seen .now) p g (omega (arith, c .before .before .before .before .before .before .before .before .before .loop-test .taken)),
       giving-hands (a .l) (a .z) (a .salt) (a .a) (a .e) (a .n) (a .from) (a .m) (a .filter .now)
           (tab (a .xors .now) (a .flows .now) (a .unknowns .now) (a .positions .now) (a .marks .now)) (records (a .keys .now) (a .counts .now) (a .flags .now)) (a .seen .now) p g (omega (arith, c .before .before .before .before .before .before .before .before .before .loop-test .taken)),
+      s .pre .2,
     )
 
 taken-by-requires : tie.Need-taken-by-requires Inv-loop μ-loop

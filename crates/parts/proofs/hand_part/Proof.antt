@@ -151,61 +151,61 @@ part-hand-end-10 c =
 hand-requires : tie.Need-hand-requires
 unfolding tableAt listAt
 hand-requires c κs =
-    (c .before .before .before .before .before .before .before .before .before .before .before .before .before .before .before .before .before .before .before .before .before) .pre .3
+    ((c .before .before .before .before .before .before .before .before .before .before .before .before .before .before .before .before .before .before .before .before .before) .pre .3, (c .before .before .before .before .before .before .before .before .before .before .before .before .before .before .before .before .before .before .before .before .before) .pre .4)
 
 same-length : tie.Need-same-length
 same-length c =
     let a = (c .before .before .before .before .before .before .before .before .before .before .before .before .before .before .before .before .before .before .before .before .before .before .before .before .before .before .before .before .before .before .before .before .before .before .before .before .before .before .before .before) .args in
     let i = (c .before .before .before .before .before .before .before .before .before .before .before .before .before .before .before .before .before .before .before .before .before .before .before .before .before .before .before .before .before .before .before .before .before .before .before .before .before .before .before .before) .pre .0 in
-    length-laid (a .a .xors) (a .e .xors) (a .xors .now) (c .before .before .before .before .before .before .before .before .before .before .before .before .before .before .before .before .before .before .hand .last .1 .1 .1 .1 .1 .1 .1 .0) (i .xors-up) (i .xors-in) (c .before .before .before .before .before .before .before .before .before .before .before .before .before .before .before .before .before .before .hand .kept .1 .1 .1 .1 .1 .1 .1 .0)
+    length-laid (a .a .xors) (a .e .xors) (a .xors .now) (c .before .before .before .before .before .before .before .before .before .before .before .before .before .before .before .before .before .before .hand .last .1 .1 .1 .1 .1 .1 .1 .1 .0) (i .xors-up) (i .xors-in) (c .before .before .before .before .before .before .before .before .before .before .before .before .before .before .before .before .before .before .hand .kept .1 .1 .1 .1 .1 .1 .1 .1 .0)
 
 same-length-2 : tie.Need-same-length-2
 same-length-2 c =
     let a = (c .before .before .before .before .before .before .before .before .before .before .before .before .before .before .before .before .before .before .before .before .before .before .before .before .before .before .before .before .before .before .before .before .before .before .before .before .before .before .before .before) .args in
     let i = (c .before .before .before .before .before .before .before .before .before .before .before .before .before .before .before .before .before .before .before .before .before .before .before .before .before .before .before .before .before .before .before .before .before .before .before .before .before .before .before .before) .pre .0 in
-    length-laid (a .a .cells) (a .e .cells) (a .flows .now) (c .before .before .before .before .before .before .before .before .before .before .before .before .before .before .before .before .before .before .hand .last .1 .1 .1 .1 .1 .1 .1 .1 .0) (i .cells-up) (i .flows-in) (c .before .before .before .before .before .before .before .before .before .before .before .before .before .before .before .before .before .before .hand .kept .1 .1 .1 .1 .1 .1 .1 .1 .0)
+    length-laid (a .a .cells) (a .e .cells) (a .flows .now) (c .before .before .before .before .before .before .before .before .before .before .before .before .before .before .before .before .before .before .hand .last .1 .1 .1 .1 .1 .1 .1 .1 .1 .0) (i .cells-up) (i .flows-in) (c .before .before .before .before .before .before .before .before .before .before .before .before .before .before .before .before .before .before .hand .kept .1 .1 .1 .1 .1 .1 .1 .1 .1 .0)
 
 same-length-3 : tie.Need-same-length-3
 same-length-3 c =
     let a = (c .before .before .before .before .before .before .before .before .before .before .before .before .before .before .before .before .before .before .before .before .before .before .before .before .before .before .before .before .before .before .before .before .before .before .before .before .before .before .before .before) .args in
     let i = (c .before .before .before .before .before .before .before .before .before .before .before .before .before .before .before .before .before .before .before .before .before .before .before .before .before .before .before .before .before .before .before .before .before .before .before .before .before .before .before .before) .pre .0 in
-    length-laid (a .a .cells) (a .e .cells) (a .unknowns .now) (c .before .before .before .before .before .before .before .before .before .before .before .before .before .before .before .before .before .before .hand .last .1 .1 .1 .1 .1 .1 .1 .1 .1 .0) (i .cells-up) (i .unknowns-in) (c .before .before .before .before .before .before .before .before .before .before .before .before .before .before .before .before .before .before .hand .kept .1 .1 .1 .1 .1 .1 .1 .1 .1 .0)
+    length-laid (a .a .cells) (a .e .cells) (a .unknowns .now) (c .before .before .before .before .before .before .before .before .before .before .before .before .before .before .before .before .before .before .hand .last .1 .1 .1 .1 .1 .1 .1 .1 .1 .1 .0) (i .cells-up) (i .unknowns-in) (c .before .before .before .before .before .before .before .before .before .before .before .before .before .before .before .before .before .before .hand .kept .1 .1 .1 .1 .1 .1 .1 .1 .1 .1 .0)
 
 same-length-4 : tie.Need-same-length-4
 same-length-4 c =
     let a = (c .before .before .before .before .before .before .before .before .before .before .before .before .before .before .before .before .before .before .before .before .before .before .before .before .before .before .before .before .before .before .before .before .before .before .before .before .before .before .before .before) .args in
     let i = (c .before .before .before .before .before .before .before .before .before .before .before .before .before .before .before .before .before .before .before .before .before .before .before .before .before .before .before .before .before .before .before .before .before .before .before .before .before .before .before .before) .pre .0 in
-    length-laid (a .a .cells) (a .e .cells) (a .positions .now) (c .before .before .before .before .before .before .before .before .before .before .before .before .before .before .before .before .before .before .hand .last .1 .1 .1 .1 .1 .1 .1 .1 .1 .1 .0) (i .cells-up) (i .positions-in) (c .before .before .before .before .before .before .before .before .before .before .before .before .before .before .before .before .before .before .hand .kept .1 .1 .1 .1 .1 .1 .1 .1 .1 .1 .0)
+    length-laid (a .a .cells) (a .e .cells) (a .positions .now) (c .before .before .before .before .before .before .before .before .before .before .before .before .before .before .before .before .before .before .hand .last .1 .1 .1 .1 .1 .1 .1 .1 .1 .1 .1 .0) (i .cells-up) (i .positions-in) (c .before .before .before .before .before .before .before .before .before .before .before .before .before .before .before .before .before .before .hand .kept .1 .1 .1 .1 .1 .1 .1 .1 .1 .1 .1 .0)
 
 same-length-5 : tie.Need-same-length-5
 same-length-5 c =
     let a = (c .before .before .before .before .before .before .before .before .before .before .before .before .before .before .before .before .before .before .before .before .before .before .before .before .before .before .before .before .before .before .before .before .before .before .before .before .before .before .before .before) .args in
     let i = (c .before .before .before .before .before .before .before .before .before .before .before .before .before .before .before .before .before .before .before .before .before .before .before .before .before .before .before .before .before .before .before .before .before .before .before .before .before .before .before .before) .pre .0 in
-    length-laid (a .a .words) (a .e .words) (a .marks .now) (c .before .before .before .before .before .before .before .before .before .before .before .before .before .before .before .before .before .before .hand .last .1 .1 .1 .1 .1 .1 .1 .1 .1 .1 .1 .0) (i .words-up) (i .marks-in) (c .before .before .before .before .before .before .before .before .before .before .before .before .before .before .before .before .before .before .hand .kept .1 .1 .1 .1 .1 .1 .1 .1 .1 .1 .1 .0)
+    length-laid (a .a .words) (a .e .words) (a .marks .now) (c .before .before .before .before .before .before .before .before .before .before .before .before .before .before .before .before .before .before .hand .last .1 .1 .1 .1 .1 .1 .1 .1 .1 .1 .1 .1 .0) (i .words-up) (i .marks-in) (c .before .before .before .before .before .before .before .before .before .before .before .before .before .before .before .before .before .before .hand .kept .1 .1 .1 .1 .1 .1 .1 .1 .1 .1 .1 .1 .0)
 
 same-length-6 : tie.Need-same-length-6
 same-length-6 c =
     let a = (c .before .before .before .before .before .before .before .before .before .before .before .before .before .before .before .before .before .before .before .before .before .before .before .before .before .before .before .before .before .before .before .before .before .before .before .before .before .before .before .before) .args in
     let i = (c .before .before .before .before .before .before .before .before .before .before .before .before .before .before .before .before .before .before .before .before .before .before .before .before .before .before .before .before .before .before .before .before .before .before .before .before .before .before .before .before) .pre .0 in
-    length-laid (a .a .keys) (a .e .keys) (a .keys .now) (c .before .before .before .before .before .before .before .before .before .before .before .before .before .before .before .before .before .before .hand .last .1 .1 .1 .1 .1 .1 .1 .1 .1 .1 .1 .1 .0) (i .keys-up) (i .keys-in) (c .before .before .before .before .before .before .before .before .before .before .before .before .before .before .before .before .before .before .hand .kept .1 .1 .1 .1 .1 .1 .1 .1 .1 .1 .1 .1 .0)
+    length-laid (a .a .keys) (a .e .keys) (a .keys .now) (c .before .before .before .before .before .before .before .before .before .before .before .before .before .before .before .before .before .before .hand .last .1 .1 .1 .1 .1 .1 .1 .1 .1 .1 .1 .1 .1 .0) (i .keys-up) (i .keys-in) (c .before .before .before .before .before .before .before .before .before .before .before .before .before .before .before .before .before .before .hand .kept .1 .1 .1 .1 .1 .1 .1 .1 .1 .1 .1 .1 .1 .0)
 
 same-length-7 : tie.Need-same-length-7
 same-length-7 c =
     let a = (c .before .before .before .before .before .before .before .before .before .before .before .before .before .before .before .before .before .before .before .before .before .before .before .before .before .before .before .before .before .before .before .before .before .before .before .before .before .before .before .before) .args in
     let i = (c .before .before .before .before .before .before .before .before .before .before .before .before .before .before .before .before .before .before .before .before .before .before .before .before .before .before .before .before .before .before .before .before .before .before .before .before .before .before .before .before) .pre .0 in
-    length-laid (a .a .records) (a .e .records) (a .counts .now) (c .before .before .before .before .before .before .before .before .before .before .before .before .before .before .before .before .before .before .hand .last .1 .1 .1 .1 .1 .1 .1 .1 .1 .1 .1 .1 .1 .0) (i .records-up) (i .counts-in) (c .before .before .before .before .before .before .before .before .before .before .before .before .before .before .before .before .before .before .hand .kept .1 .1 .1 .1 .1 .1 .1 .1 .1 .1 .1 .1 .1 .0)
+    length-laid (a .a .records) (a .e .records) (a .counts .now) (c .before .before .before .before .before .before .before .before .before .before .before .before .before .before .before .before .before .before .hand .last .1 .1 .1 .1 .1 .1 .1 .1 .1 .1 .1 .1 .1 .1 .0) (i .records-up) (i .counts-in) (c .before .before .before .before .before .before .before .before .before .before .before .before .before .before .before .before .before .before .hand .kept .1 .1 .1 .1 .1 .1 .1 .1 .1 .1 .1 .1 .1 .1 .0)
 
 same-length-8 : tie.Need-same-length-8
 same-length-8 c =
     let a = (c .before .before .before .before .before .before .before .before .before .before .before .before .before .before .before .before .before .before .before .before .before .before .before .before .before .before .before .before .before .before .before .before .before .before .before .before .before .before .before .before) .args in
     let i = (c .before .before .before .before .before .before .before .before .before .before .before .before .before .before .before .before .before .before .before .before .before .before .before .before .before .before .before .before .before .before .before .before .before .before .before .before .before .before .before .before) .pre .0 in
-    length-laid (a .a .records) (a .e .records) (a .flags .now) (c .before .before .before .before .before .before .before .before .before .before .before .before .before .before .before .before .before .before .hand .last .1 .1 .1 .1 .1 .1 .1 .1 .1 .1 .1 .1 .1 .1 .0) (i .records-up) (i .flags-in) (c .before .before .before .before .before .before .before .before .before .before .before .before .before .before .before .before .before .before .hand .kept .1 .1 .1 .1 .1 .1 .1 .1 .1 .1 .1 .1 .1 .1 .0)
+    length-laid (a .a .records) (a .e .records) (a .flags .now) (c .before .before .before .before .before .before .before .before .before .before .before .before .before .before .before .before .before .before .hand .last .1 .1 .1 .1 .1 .1 .1 .1 .1 .1 .1 .1 .1 .1 .1 .0) (i .records-up) (i .flags-in) (c .before .before .before .before .before .before .before .before .before .before .before .before .before .before .before .before .before .before .hand .kept .1 .1 .1 .1 .1 .1 .1 .1 .1 .1 .1 .1 .1 .1 .1 .0)
 
 same-length-9 : tie.Need-same-length-9
 same-length-9 c =
     let a = (c .before .before .before .before .before .before .before .before .before .before .before .before .before .before .before .before .before .before .before .before .before .before .before .before .before .before .before .before .before .before .before .before .before .before .before .before .before .before .before .before) .args in
     let i = (c .before .before .before .before .before .before .before .before .before .before .before .before .before .before .before .before .before .before .before .before .before .before .before .before .before .before .before .before .before .before .before .before .before .before .before .before .before .before .before .before) .pre .0 in
-    length-laid (a .a .seen) (a .e .seen) (a .seen .now) (c .before .before .before .before .before .before .before .before .before .before .before .before .before .before .before .before .before .before .hand .last .1 .1 .1 .1 .1 .1 .1 .1 .1 .1 .1 .1 .1 .1 .1 .0) (i .seen-up) (i .seen-in) (c .before .before .before .before .before .before .before .before .before .before .before .before .before .before .before .before .before .before .hand .kept .1 .1 .1 .1 .1 .1 .1 .1 .1 .1 .1 .1 .1 .1 .1 .0)
+    length-laid (a .a .seen) (a .e .seen) (a .seen .now) (c .before .before .before .before .before .before .before .before .before .before .before .before .before .before .before .before .before .before .hand .last .1 .1 .1 .1 .1 .1 .1 .1 .1 .1 .1 .1 .1 .1 .1 .1 .0) (i .seen-up) (i .seen-in) (c .before .before .before .before .before .before .before .before .before .before .before .before .before .before .before .before .before .before .hand .kept .1 .1 .1 .1 .1 .1 .1 .1 .1 .1 .1 .1 .1 .1 .1 .1 .0)
 
 returns : tie.Need-returns
 unfolding tableAt listAt withTable withList

@@ -136,13 +136,13 @@ part-is-session-seen-end-9 c =
 is-session-seen-requires : tie.Need-is-session-seen-requires
 unfolding tableAt listAt
 is-session-seen-requires c κs =
-    ((c .before .before .before .before .before .before .before .before .before .before .before .before .before .before .before .before .before .before) .pre .1, (c .before .before .before .before .before .before .before .before .before .before .before .before .before .before .before .before .before .before) .pre .2, (c .before .before .before .before .before .before .before .before .before .before .before .before .before .before .before .before .before .before) .pre .3)
+    ((c .before .before .before .before .before .before .before .before .before .before .before .before .before .before .before .before .before .before) .pre .1, (c .before .before .before .before .before .before .before .before .before .before .before .before .before .before .before .before .before .before) .pre .2, (c .before .before .before .before .before .before .before .before .before .before .before .before .before .before .before .before .before .before) .pre .3, (c .before .before .before .before .before .before .before .before .before .before .before .before .before .before .before .before .before .before) .pre .4)
 
 same-length : tie.Need-same-length
 same-length c =
     let a = (c .before .before .before .before .before .before .before .before .before .before .before .before .before .before .before .before .before .before .before .before .before) .args in
     let i = (c .before .before .before .before .before .before .before .before .before .before .before .before .before .before .before .before .before .before .before .before .before) .pre .0 in
-    length-laid (a .a .seen) (a .e .seen) (a .seen .now) (c .before .before .is-session-seen .last .1 .1 .1 .1 .1 .1 .1 .1 .1 .1 .1 .1 .0) (i .seen-up) (i .seen-in) (c .before .before .is-session-seen .kept .1 .1 .1 .1 .1 .1 .1 .1 .1 .1 .1 .1 .0)
+    length-laid (a .a .seen) (a .e .seen) (a .seen .now) (c .before .before .is-session-seen .last .1 .1 .1 .1 .1 .1 .1 .1 .1 .1 .1 .1 .1 .0) (i .seen-up) (i .seen-in) (c .before .before .is-session-seen .kept .1 .1 .1 .1 .1 .1 .1 .1 .1 .1 .1 .1 .1 .0)
 
 returns : tie.Need-returns
 unfolding tableAt listAt

@@ -80,6 +80,7 @@ add-e c =
       here
           (c .before .before .before .before .before .before .before .before .before .before .before .before .before .before .before)
           (c .before .before .before .before .before .table-cells .ensures) (c .before .before .if1 .left),
+      (c .before .before .before .before .before .before .before .before .before .before .before .before .before .before .before) .good,
     )
 
 mul-b : tie.Need-mul-b
@@ -223,7 +224,7 @@ take-out-requires c κs =
     ∙ key-back (a .l) (a .n)
     (part s (a .xors .now)
     (c .before .before .before .before .before .before .before .before .before .before .before .before .before .before .before .before .before .before .before .before .before .before .before .before .before .before .before .before .before .before .before .before .before .before .before .before .before .before .before .first-mark .result)) 0 (R s) (s .pre .0 .room) (room s (c .before .before .before .before .before .before .before .before .before .before .before .before .before .before .before .before .before .before .before .before .before .before .before .before .before .before .before .before .before .before .before .before .before .before .before .before .before .before .before .before .before .table-cells .ensures) (c .before .before .before .before .before .before .before .before .before .before .before .before .before .before .before .before .before .before .before .before .before .before .before .before .before .before .before .before .before .before .before .before .before .before .before .before .before .before .before .first-mark .ensures) (c .before .before .before .before .before .before .before .before .before .before .before .before .before .before .before .before .before .before .before .before .before .before .before .before .before .before .before .before .before .before .before .before .before .before .before .before .before .before .if1 .left)) len (c .before .before .before .before .before .before .before .before .before .before .before .before .before .before .before .before .before .before .append .ensures) in
-    (s .pre .0 .table, c .before .before .before .before .before .before .before .before .before .before .before .before .before .before .before .before .before .before .before .before .before .before .before .before .before .before .before .before .before .before .before .cells-of .ensures ∙ ap (λ k. listUpto 4 (cellOf (a .l) (a .z) (a .salt) k)) (sym back), ap length back ∙ len)
+    (s .pre .0 .table, c .before .before .before .before .before .before .before .before .before .before .before .before .before .before .before .before .before .before .before .before .before .before .before .before .before .before .before .before .before .before .before .cells-of .ensures ∙ ap (λ k. listUpto 4 (cellOf (a .l) (a .z) (a .salt) k)) (sym back), ap length back ∙ len, s .pre .2)
 
 same-length-7 : tie.Need-same-length-7
 same-length-7 c = search needs

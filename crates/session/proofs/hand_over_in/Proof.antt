@@ -15,12 +15,15 @@ M s =
     memory (a .filter .now) (tab (a .xors .now) (a .flows .now) (a .unknowns .now) (a .positions .now) (a .marks .now)) (a .packets .now)
     (records (a .keys .now) (a .counts .now) (a .flags .now))
 
+after-salt-requires : tie.Need-after-salt-requires
+after-salt-requires c κs = tt
+
 slice-aggregate-test : tie.Need-slice-aggregate-test
 slice-aggregate-test c = search needs
 
 test-requires : tie.Need-test-requires
 test-requires c κs =
-    ((c .before .before .before .before .before .before .before .before .before .before .before .before .before .before .before .before .before .before .before .before) .pre .0, empty-zeros)
+    ((c .before .before .before .before .before .before .before .before .before .before .before .before .before .before .before .before .before .before .before .before .before) .pre .0, empty-zeros, c .before .before .before .before .before .before .before .before .before .after-salt .ensures)
 
 enum-told : tie.Need-enum-told
 enum-told c = search needs
@@ -51,7 +54,7 @@ same-length-8 c = search needs
 
 returns : tie.Need-returns
 returns c =
-    let s = (c .before .before .before .before .before .before .before .before .before .before .before .before .before .before .before .before .before .before .before .before .before .before .before .before) in
+    let s = (c .before .before .before .before .before .before .before .before .before .before .before .before .before .before .before .before .before .before .before .before .before .before .before .before .before) in
     hand-not (s .args .l) (s .args .s) (M s) (c .before .before .before .test .ensures .0) (s .args .key .now) (c .enum-told .given .1)
 
 enum-told-2 : tie.Need-enum-told-2
@@ -83,7 +86,7 @@ same-length-16 c = search needs
 
 returns-2 : tie.Need-returns-2
 returns-2 c =
-    let s = (c .before .before .before .before .before .before .before .before .before .before .before .before .before .before .before .before .before .before .before .before .before .before .before .before) in
+    let s = (c .before .before .before .before .before .before .before .before .before .before .before .before .before .before .before .before .before .before .before .before .before .before .before .before .before) in
     hand-room (s .args .l) (s .args .s) (M s) (c .before .before .before .test .ensures .0) (s .args .key .now) (c .enum-told2 .given .1)
 
 enum-told-3 : tie.Need-enum-told-3
@@ -91,7 +94,7 @@ enum-told-3 c = search needs
 
 flagged-in-requires : tie.Need-flagged-in-requires
 flagged-in-requires c κs =
-    let s = (c .before .before .before .before .before .before .before .before .before .before .before .before .before .before .before .before .before .before .before .before .before .before .before .before .before) in
+    let s = (c .before .before .before .before .before .before .before .before .before .before .before .before .before .before .before .before .before .before .before .before .before .before .before .before .before .before) in
     let p = passes (s .args .l) (s .args .s) (M s) (c .before .before .before .before .test .ensures .0) (c .before .enum-told3 .given .1) in
     (flags-reach (s .args .l) (s .args .s) (M s) (s .pre .0) p, omega arith)
 
@@ -100,17 +103,19 @@ slice-aggregate-hand c = search needs
 
 hand-requires : tie.Need-hand-requires
 hand-requires c κs =
-    let s = (c .before .before .before .before .before .before .before .before .before .before .before .before .before .before .before .before .before .before .before .before .before .before .before .before .before .before .before .before .before .before .before .before .before .before .before) in
+    let s = (c .before .before .before .before .before .before .before .before .before .before .before .before .before .before .before .before .before .before .before .before .before .before .before .before .before .before .before .before .before .before .before .before .before .before .before .before) in
     let q = c .before .before .before .before .before .before .before .before .before .before .before .enum-told3 .given .1 in
     let p = passes (s .args .l) (s .args .s) (M s)
-    (c .before .before .before .before .before .before .before .before .before .before .before .before .before .before .test .ensures .0) q in
-    passes-hands (s .args .l) (s .args .s) (M s) (s .pre .0) p (λ i. c .before .before .before .before .before .before .before .before .before .before .before .before .before .before .before .before .before .before .before .before .before .before .before .before .before .before .before .slice-known5 .given i .fits) (s .args .key .now) (s .pre .1)
-    (c .before .before .before .before .before .before .before .before .before .flagged-in .ensures .0)
-    (c .before .before .before .before .before .before .before .before .before .before .before .before .before .before .test .ensures .1 q)
+    (c .before .before .before .before .before .before .before .before .before .before .before .before .before .before .test .ensures .0) q in (
+      passes-hands (s .args .l) (s .args .s) (M s) (s .pre .0) p (λ i. c .before .before .before .before .before .before .before .before .before .before .before .before .before .before .before .before .before .before .before .before .before .before .before .before .before .before .before .before .slice-known5 .given i .fits) (s .args .key .now) (s .pre .1)
+          (c .before .before .before .before .before .before .before .before .before .flagged-in .ensures .0)
+          (c .before .before .before .before .before .before .before .before .before .before .before .before .before .before .test .ensures .1 q),
+      c .before .before .before .before .before .before .before .before .before .before .before .before .before .before .before .before .before .before .before .before .before .before .before .before .after-salt .ensures,
+    )
 
 hand-answer-requires : tie.Need-hand-answer-requires
 hand-answer-requires c κs =
-    let s = (c .before .before .before .before .before .before .before .before .before .before .before .before .before .before .before .before .before .before .before .before .before .before .before .before .before .before .before .before .before .before .before .before .before .before .before .before .before .before .before .before .before .before .before .before .before .before .before .before .before .before .before .before .before) in
+    let s = (c .before .before .before .before .before .before .before .before .before .before .before .before .before .before .before .before .before .before .before .before .before .before .before .before .before .before .before .before .before .before .before .before .before .before .before .before .before .before .before .before .before .before .before .before .before .before .before .before .before .before .before .before .before .before) in
     let p = passes (s .args .l) (s .args .s) (M s)
     (c .before .before .before .before .before .before .before .before .before .before .before .before .before .before .before .before .before .before .before .before .before .before .before .before .before .before .before .before .before .before .before .before .test .ensures .0) (c .before .before .before .before .before .before .before .before .before .before .before .before .before .before .before .before .before .before .before .before .before .before .before .before .before .before .before .before .before .enum-told3 .given .1) in
     listed-small (s .args .l) (s .args .s) (M s) (s .pre .0) p
@@ -141,7 +146,7 @@ same-length-24 c = search needs
 
 returns-3 : tie.Need-returns-3
 returns-3 c =
-    let s = (c .before .before .before .before .before .before .before .before .before .before .before .before .before .before .before .before .before .before .before .before .before .before .before .before .before .before .before .before .before .before .before .before .before .before .before .before .before .before .before .before .before .before .before .before .before .before .before .before .before .before .before .before .before .before) in
+    let s = (c .before .before .before .before .before .before .before .before .before .before .before .before .before .before .before .before .before .before .before .before .before .before .before .before .before .before .before .before .before .before .before .before .before .before .before .before .before .before .before .before .before .before .before .before .before .before .before .before .before .before .before .before .before .before .before) in
     let q = c .before .before .before .before .before .before .before .before .before .before .before .before .before .before .before .before .before .before .before .before .before .before .before .before .before .before .before .before .before .before .enum-told3 .given .1 in
     hand-passed (s .args .l) (s .args .s) (M s)
     (c .before .before .before .before .before .before .before .before .before .before .before .before .before .before .before .before .before .before .before .before .before .before .before .before .before .before .before .before .before .before .before .before .before .test .ensures .0) (s .args .key .now) q (c .before .before .before .before .before .before .before .before .before .before .before .before .before .before .before .before .before .before .before .before .before .before .before .before .before .before .before .before .before .before .before .before .before .test .ensures .1 q) (c .before .before .before .before .before .before .before .before .before .before .before .before .before .before .before .before .before .before .hand .ensures) (c .hand-answer .ensures)
@@ -150,7 +155,7 @@ pub hand-over-in-spec : {M : Type 1} → statement M
 hand-over-in-spec =
     tie.close
     (tie.spec
-    slice-aggregate-test
+    after-salt-requires slice-aggregate-test
     test-requires
     enum-told
     same-length

@@ -14,12 +14,15 @@ M s =
     memory (a .filter .now) (tab (a .xors .now) (a .flows .now) (a .unknowns .now) (a .positions .now) (a .marks .now)) (a .packets .now)
     (records (a .keys .now) (a .counts .now) (a .flags .now))
 
+after-salt-requires : tie.Need-after-salt-requires
+after-salt-requires c κs = tt
+
 slice-aggregate-test : tie.Need-slice-aggregate-test
 slice-aggregate-test c = search needs
 
 test-requires : tie.Need-test-requires
 test-requires c κs =
-    ((c .before .before .before .before .before .before .before .before .before .before .before .before .before .before .before .before .before .before .before .before) .pre, empty-zeros)
+    ((c .before .before .before .before .before .before .before .before .before .before .before .before .before .before .before .before .before .before .before .before .before) .pre, empty-zeros, c .before .before .before .before .before .before .before .before .before .before .after-salt .ensures)
 
 enum-told : tie.Need-enum-told
 enum-told c = search needs
@@ -53,7 +56,7 @@ same-length-9 c = search needs
 
 returns : tie.Need-returns
 returns c =
-    let s = (c .before .before .before .before .before .before .before .before .before .before .before .before .before .before .before .before .before .before .before .before .before .before .before .before) in
+    let s = (c .before .before .before .before .before .before .before .before .before .before .before .before .before .before .before .before .before .before .before .before .before .before .before .before .before) in
     settle-not (s .args .l) (s .args .s) (M s) (c .before .before .before .test .ensures .0) (c .enum-told .given .1)
 
 enum-told-2 : tie.Need-enum-told-2
@@ -88,7 +91,7 @@ same-length-18 c = search needs
 
 returns-2 : tie.Need-returns-2
 returns-2 c =
-    let s = (c .before .before .before .before .before .before .before .before .before .before .before .before .before .before .before .before .before .before .before .before .before .before .before .before) in
+    let s = (c .before .before .before .before .before .before .before .before .before .before .before .before .before .before .before .before .before .before .before .before .before .before .before .before .before) in
     settle-room (s .args .l) (s .args .s) (M s) (c .before .before .before .test .ensures .0) (c .enum-told2 .given .1)
 
 enum-told-3 : tie.Need-enum-told-3
@@ -99,14 +102,15 @@ slice-aggregate-settle-all c = search needs
 
 settle-all-requires : tie.Need-settle-all-requires
 settle-all-requires c κs =
-    let s = (c .before .before .before .before .before .before .before .before .before .before .before .before .before .before .before .before .before .before .before .before .before .before .before .before .before .before .before .before .before .before .before .before .before .before) in
+    let s = (c .before .before .before .before .before .before .before .before .before .before .before .before .before .before .before .before .before .before .before .before .before .before .before .before .before .before .before .before .before .before .before .before .before .before .before) in
     let q = c .before .before .before .before .before .before .before .before .before .before .enum-told3 .given .1 in
     let p = passes (s .args .l) (s .args .s) (M s)
     (c .before .before .before .before .before .before .before .before .before .before .before .before .before .test .ensures .0) q in (
-      passes-steady (s .args .l) (s .args .s) (M s) (s .pre) p (λ i. c .before .before .before .before .before .before .before .before .before .before .before .before .before .before .before .before .before .before .before .before .before .before .before .before .before .before .before .slice-known6 .given i .fits)
+      passes-steady (s .args .l) (s .args .s) (M s) (s .pre) p (λ i. c .before .before .before .before .before .before .before .before .before .before .before .before .before .before .before .before .before .before .before .before .before .before .before .before .before .before .before .before .slice-known6 .given i .fits)
           (c .before .before .before .before .before .before .before .before .before .before .before .before .before .test .ensures .1 q),
       rooms
           (s .args .l) (s .args .s) (M s) (s .pre) p .packets-fit,
+      c .before .before .before .before .before .before .before .before .before .before .before .before .before .before .before .before .before .before .before .before .before .before .before .before .after-salt .ensures,
     )
 
 settle-answer-requires : tie.Need-settle-answer-requires
@@ -141,7 +145,7 @@ same-length-27 c = search needs
 
 returns-3 : tie.Need-returns-3
 returns-3 c =
-    let s = (c .before .before .before .before .before .before .before .before .before .before .before .before .before .before .before .before .before .before .before .before .before .before .before .before .before .before .before .before .before .before .before .before .before .before .before .before .before .before .before .before .before .before .before .before .before .before .before .before .before .before .before .before .before .before .before) in
+    let s = (c .before .before .before .before .before .before .before .before .before .before .before .before .before .before .before .before .before .before .before .before .before .before .before .before .before .before .before .before .before .before .before .before .before .before .before .before .before .before .before .before .before .before .before .before .before .before .before .before .before .before .before .before .before .before .before .before) in
     let q = c .before .before .before .before .before .before .before .before .before .before .before .before .before .before .before .before .before .before .before .before .before .before .before .before .before .before .before .before .before .before .before .enum-told3 .given .1 in
     settle-passed (s .args .l) (s .args .s) (M s)
     (c .before .before .before .before .before .before .before .before .before .before .before .before .before .before .before .before .before .before .before .before .before .before .before .before .before .before .before .before .before .before .before .before .before .before .test .ensures .0) q (c .before .before .before .before .before .before .before .before .before .before .before .before .before .before .before .before .before .before .before .before .before .before .before .before .before .before .before .before .before .before .before .before .before .before .test .ensures .1 q) (c .before .before .before .before .before .before .before .before .before .before .before .before .before .before .before .before .before .before .before .before .settle-all .ensures) (c .settle-answer .ensures)
@@ -150,7 +154,7 @@ pub settle-in-spec : {M : Type 1} → statement M
 settle-in-spec =
     tie.close
     (tie.spec
-    slice-aggregate-test
+    after-salt-requires slice-aggregate-test
     test-requires
     enum-told
     same-length

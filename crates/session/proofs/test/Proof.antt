@@ -49,7 +49,7 @@ is-session-seen-requires c κs =
     let r = rooms-told (s .args .l) (s .args .s .sizes) (s .pre .0)
     (ranged (s .args .s .sizes) (held (c .before .before .before .before .in-range .ensures) (c .before .before .before .if1 .left))) (M s)
     (held (c .before .before .fits2 .ensures) (c .before .if2 .left)) in
-    (r .table, r .room, s .pre .1)
+    (r .table, r .room, s .pre .1, s .pre .2)
 
 same-length : tie.Need-same-length
 same-length c = search needs

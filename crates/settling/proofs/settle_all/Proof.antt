@@ -57,9 +57,11 @@ returns c =
 count-all-requires : tie.Need-count-all-requires
 count-all-requires c κs =
     let s = (c .before .before .before .before .before .before .before .before .before .before .before .before .before .before .before .before .before .before .before .before .before .before .before .before .before .before .before .before .before .before .before .before .before .before .before .before .before .before .before .before .before .before .before .before .before .before .before .before) in
-    let a = s .args in
-    count-fits (a .l) (a .z) (a .salt) (a .n) (T s) (a .packets .now) (R s) (a .seen .now)
-    (c .before .before .before .before .before .before .before .before .before .before .before .before .before .before .before .before .before .before .before .before .before .before .before .before .before .before .before .before .peels .ensures) (c .before .before .before .before .before .before .before .before .r .given .1) (s .pre .0) (s .pre .1)
+    let a = s .args in (
+      count-fits (a .l) (a .z) (a .salt) (a .n) (T s) (a .packets .now) (R s) (a .seen .now)
+          (c .before .before .before .before .before .before .before .before .before .before .before .before .before .before .before .before .before .before .before .before .before .before .before .before .before .before .before .before .peels .ensures) (c .before .before .before .before .before .before .before .before .r .given .1) (s .pre .0) (s .pre .1),
+      s .pre .2,
+    )
 
 stop-after-requires : tie.Need-stop-after-requires
 stop-after-requires c κs = search needs

@@ -38,7 +38,7 @@ part-cell-of-end c = search needs
 cell-of-requires : tie.Need-cell-of-requires
 cell-of-requires c κs =
     let s = (c .before .before .before .before .before .before .before) in
-    (s .pre .0, s .pre .1, part-below (s .args .l) (s .args .z) (s .pre .0) (s .pre .1) (s .pre .2))
+    (s .pre .0, s .pre .1, part-below (s .args .l) (s .args .z) (s .pre .0) (s .pre .1) (s .pre .2), s .pre .5)
 
 returns-2 : tie.Need-returns-2
 returns-2 c =

@@ -22,7 +22,9 @@ xor-at-requires c κs =
     omega (arith, s .pre .0 .xors-fit, s .pre .2, w)
 
 mul-less : tie.Need-mul-less
-mul-less c = omega arith
+mul-less c =
+    let s = (c .before .before .before .before .before .before .before .before .before .before .before) in
+    omega (arith, cell-few (s .args .l) (s .args .z) (s .pre .0) (s .pre .1))
 
 slice-read-less : tie.Need-slice-read-less
 slice-read-less c = omega arith
@@ -31,13 +33,17 @@ less-requires : tie.Need-less-requires
 less-requires c κs = search needs
 
 mul-flows : tie.Need-mul-flows
-mul-flows c = omega arith
+mul-flows c =
+    let s = (c .before .before .before .before .before .before .before .before .before .before .before .before .before) in
+    omega (arith, cell-few (s .args .l) (s .args .z) (s .pre .0) (s .pre .1))
 
 slice-write-flows : tie.Need-slice-write-flows
 slice-write-flows c = omega arith
 
 mul-wrapping-add-u16 : tie.Need-mul-wrapping-add-u16
-mul-wrapping-add-u16 c = omega arith
+mul-wrapping-add-u16 c =
+    let s = (c .before .before .before .before .before .before .before .before .before .before .before .before .before) in
+    omega (arith, cell-few (s .args .l) (s .args .z) (s .pre .0) (s .pre .1))
 
 slice-read-wrapping-add-u16 : tie.Need-slice-read-wrapping-add-u16
 slice-read-wrapping-add-u16 c = omega arith
@@ -79,6 +85,7 @@ is-pure-requires c κs =
       omega (arith, s .pre .0 .xors-fit),
       simp length-set
           (omega (arith, s .pre .0 .flows-fit, s .pre .1 .inside)),
+      s .pre .3,
     )
 
 put-mark-requires : tie.Need-put-mark-requires

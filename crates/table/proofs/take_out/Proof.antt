@@ -9,12 +9,12 @@ use Rattle.table.proofs.take_out.Statement.{statement}
 use Rattle.table.proofs.take_out.Tie as tie
 
 abbrev Inv-loop : tie.InvT-loop
-Inv-loop l z salt key position xors₀ flows₀ unknowns₀ positions₀ marks₀ at i₀ xors flows unknowns positions marks i =
+Inv-loop l z salt h key position xors₀ flows₀ unknowns₀ positions₀ marks₀ at i₀ xors flows unknowns positions marks i =
     (i ≤ z .k) × Fit l z (tab xors flows unknowns positions marks)
     × (tab xors flows unknowns positions marks ≡ takenUpto l z salt key position i (tab xors₀ flows₀ unknowns₀ positions₀ marks₀))
 
 abbrev μ-loop : tie.MeasureT-loop
-μ-loop l z salt key position xors₀ flows₀ unknowns₀ positions₀ marks₀ at i₀ xors flows unknowns positions marks i = z .k - i
+μ-loop l z salt h key position xors₀ flows₀ unknowns₀ positions₀ marks₀ at i₀ xors flows unknowns positions marks i = z .k - i
 
 loop-holds : tie.Need-loop-holds Inv-loop μ-loop
 unfolding eachUpto
@@ -35,6 +35,7 @@ take-one-requires c κs =
           (s .pre .0 .ranged) (a .salt) (a .key .now) (s .pre .1) (c .before .before .before .before .before .before .before .before .loop .i)
           (omega arith),
       s .pre .2,
+      s .pre .3,
     )
 
 add-i : tie.Need-add-i Inv-loop μ-loop
@@ -49,7 +50,7 @@ loop-again c =
     let a = s .args in
     let i = c .before .before .before .before .before .before .before .before .before .before .before .before .before .before .before .before .before .before .before .loop .i in (
       omega (arith, c .before .before .before .before .before .before .before .before .before .before .before .before .before .before .before .before .before .if1 .taken),
-      fit-next (a .l) (a .z) (a .salt) (a .key .now) (a .position) (getD (a .t4 .at) i 0)
+      fit-next (a .l) (a .z) (a .salt) (a .key .now) (a .position) (getD (a .t5 .at) i 0)
           (c .before .before .before .before .before .before .before .before .before .before .take-one .ensures)
           (c .before .before .before .before .before .before .before .before .before .before .before .before .before .before .before .before .before .before .before .loop .inv .1),
       taken-turn (a .l) (a .z) (a .salt) (a .key .now) (a .position) i

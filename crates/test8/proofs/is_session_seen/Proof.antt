@@ -60,10 +60,11 @@ note-list-requires c κs =
       s .pre .2,
       refl,
       refl,
+      s .pre .3,
     )
 
 same-length : tie.Need-same-length
-same-length c = c .before .before .before .before .before .note-list .kept .1 .1 .1 .1 .1 .1 .0
+same-length c = c .before .before .before .before .before .note-list .kept .1 .1 .1 .1 .1 .1 .1 .0
 
 returns-2 : tie.Need-returns-2
 returns-2 c =
@@ -86,7 +87,7 @@ any-zero-count-requires c κs =
     (omega (arith, s .pre .1 .counts-fit, i .if1 .left, g .table-cells .ensures), omega (arith, s .pre .1 .flags-fit, i .if1 .left, g .table-cells .ensures))
 
 same-length-2 : tie.Need-same-length-2
-same-length-2 c = c .before .before .before .before .before .before .before .note-list .kept .1 .1 .1 .1 .1 .1 .0
+same-length-2 c = c .before .before .before .before .before .before .before .note-list .kept .1 .1 .1 .1 .1 .1 .1 .0
 
 returns-3 : tie.Need-returns-3
 returns-3 c =
@@ -116,7 +117,7 @@ numbers-in-requires c κs =
     )
 
 same-length-3 : tie.Need-same-length-3
-same-length-3 c = c .before .before .before .before .before .before .before .before .before .note-list .kept .1 .1 .1 .1 .1 .1 .0
+same-length-3 c = c .before .before .before .before .before .before .before .before .before .note-list .kept .1 .1 .1 .1 .1 .1 .1 .0
 
 returns-4 : tie.Need-returns-4
 returns-4 c =
@@ -137,10 +138,10 @@ marks-right-requires c κs =
     let i = c .before .before .before .before .before .before .before .before .before .before .before .before .before in
     let g = i .before in
     let s = g .before .before .before .before .before .before .before .before .before .before in
-    let p = s .pre .0 in (p .lays, p .ranged, p .xors-fit, p .flows-fit, p .marks-fit)
+    let p = s .pre .0 in (p .lays, p .ranged, p .xors-fit, p .flows-fit, p .marks-fit, s .pre .3)
 
 same-length-4 : tie.Need-same-length-4
-same-length-4 c = c .before .before .before .before .before .before .before .before .before .before .before .note-list .kept .1 .1 .1 .1 .1 .1 .0
+same-length-4 c = c .before .before .before .before .before .before .before .before .before .before .before .note-list .kept .1 .1 .1 .1 .1 .1 .1 .0
 
 returns-5 : tie.Need-returns-5
 returns-5 c =
@@ -169,7 +170,7 @@ rest-clear-requires c κs =
 same-length-5 : tie.Need-same-length-5
 same-length-5 c =
     let h = c .before .before .before .before .before .before .before .before in
-    h .before .before .before .before .before .note-list .kept .1 .1 .1 .1 .1 .1 .0
+    h .before .before .before .before .before .note-list .kept .1 .1 .1 .1 .1 .1 .1 .0
 
 returns-6 : tie.Need-returns-6
 returns-6 c =
@@ -208,7 +209,7 @@ same-numbers-requires c κs =
 same-length-6 : tie.Need-same-length-6
 same-length-6 c =
     let h = c .before .before .before .before .before .before .before .before in
-    h .before .before .before .before .before .before .before .before .note-list .kept .1 .1 .1 .1 .1 .1 .0
+    h .before .before .before .before .before .before .before .before .note-list .kept .1 .1 .1 .1 .1 .1 .1 .0
 
 returns-7 : tie.Need-returns-7
 returns-7 c =
@@ -256,7 +257,7 @@ same-numbers-requires-2 c κs =
 same-length-7 : tie.Need-same-length-7
 same-length-7 c =
     let h = c .before .before .before .before .before .before .before .before in
-    h .before .before .before .before .before .before .before .before .before .before .note-list .kept .1 .1 .1 .1 .1 .1 .0
+    h .before .before .before .before .before .before .before .before .before .before .note-list .kept .1 .1 .1 .1 .1 .1 .1 .0
 
 returns-8 : tie.Need-returns-8
 returns-8 c =

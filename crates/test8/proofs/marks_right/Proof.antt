@@ -18,11 +18,11 @@ use Rattle.test8.proofs.marks_right.Tie as tie
 use Rattle.laws.proofs.Rows.{row-within}
 
 abbrev Inv-loop : tie.InvT-loop
-Inv-loop l z salt xors flows marks s c₀ c = (c ≤ length flows) ×
+Inv-loop l z salt h xors flows marks s c₀ c = (c ≤ length flows) ×
     (allUpto c (λ d. agrees (marked marks d) (pureAt l z salt xors flows d)) ≡ true)
 
 abbrev μ-loop : tie.MeasureT-loop
-μ-loop l z salt xors flows marks s c₀ c = length flows - c
+μ-loop l z salt h xors flows marks s c₀ c = length flows - c
 
 part-cells-requires : tie.Need-part-cells-requires Inv-loop μ-loop
 part-cells-requires c κs =
@@ -51,6 +51,7 @@ is-pure-requires c κs =
           (omega arith),
       omega arith,
       omega arith,
+      s .pre .5,
     )
 
 is-marked-requires : tie.Need-is-marked-requires Inv-loop μ-loop

@@ -15,12 +15,12 @@ use Rattle.test8.proofs.note_list.Tie as tie
 use Rattle.laws.proofs.Rows.{row-within}
 
 abbrev Inv-loop : tie.InvT-loop
-Inv-loop l z salt n keys flags seen₀ unknowns₀ positions₀ repeat₀ i₀ seen unknowns positions repeat i =
+Inv-loop l z salt h n keys flags seen₀ unknowns₀ positions₀ repeat₀ i₀ seen unknowns positions repeat i =
     (i ≤ n) × (repeat ≡ keysRepeat l i keys) × (seen ≡ seenUpto l z salt i keys seen₀)
     × (unknowns ≡ noted l z salt oneMore i keys flags unknowns₀) × (positions ≡ noted l z salt mixedIn i keys flags positions₀)
 
 abbrev μ-loop : tie.MeasureT-loop
-μ-loop l z salt n keys flags seen₀ unknowns₀ positions₀ repeat₀ i₀ seen unknowns positions repeat i = n - i
+μ-loop l z salt h n keys flags seen₀ unknowns₀ positions₀ repeat₀ i₀ seen unknowns positions repeat i = n - i
 
 loop-holds : tie.Need-loop-holds Inv-loop μ-loop
 unfolding keysRepeat anyUpto seenUpto noted eachUpto
@@ -52,7 +52,7 @@ cells-of-requires : tie.Need-cells-of-requires Inv-loop μ-loop
 cells-of-requires c κs =
     let q = c .before .before .before .before in
     let s = q .before .before .before .before .before .before in
-    (s .pre .0, s .pre .1)
+    (s .pre .0, s .pre .1, s .pre .8)
 
 sub-is-found : tie.Need-sub-is-found Inv-loop μ-loop
 sub-is-found c = omega arith
@@ -72,7 +72,7 @@ is-found-requires c κs =
     let s = q .before .before .before .before .before .before in
     let a = s .args in
     let i = q .loop .i in
-    let inside = row-within i (a .n) (a .l .key) (omega arith) in
+    let inside = row-within i (a .n) (a .l .key) (omega (arith, c .before .before .before .before .before .before .loop-test .taken)) in
     let w : i * a .l .key + a .l .key - i * a .l .key ≡ a .l .key = omega arith in
     let key = key-part (a .l) (a .keys .now) i w in
     let at = c .before .before .cells-of .ensures in

@@ -41,6 +41,9 @@ part-key-start c = search needs
 part-key-end : tie.Need-part-key-end
 part-key-end c = search needs
 
+after-salt-requires : tie.Need-after-salt-requires
+after-salt-requires c κs = search needs
+
 ipv4-requires : tie.Need-ipv4-requires
 ipv4-requires c κs = search needs
 
@@ -48,14 +51,17 @@ cells-of-requires : tie.Need-cells-of-requires
 cells-of-requires c κs =
     let e = c .ipv4 .ensures in (
       rw e lays-ipv4,
-      ranged (c .before .before .before .before .before .sizes-at .result)
-          (held (c .before .before .before .before .in-range .ensures) (c .before .before .before .if2 .left)),
+      ranged (c .before .before .before .before .before .before .sizes-at .result)
+          (held (c .before .before .before .before .before .in-range .ensures) (c .before .before .before .before .if2 .left)),
+      c .before .after-salt .ensures,
     )
 
 bits-of-requires : tie.Need-bits-of-requires
-bits-of-requires c κs =
-    ranged (c .before .before .before .before .before .before .sizes-at .result)
-    (held (c .before .before .before .before .before .in-range .ensures) (c .before .before .before .before .if2 .left))
+bits-of-requires c κs = (
+  ranged (c .before .before .before .before .before .before .before .sizes-at .result)
+      (held (c .before .before .before .before .before .before .in-range .ensures) (c .before .before .before .before .before .if2 .left)),
+  c .before .before .after-salt .ensures,
+)
 
 slice-aggregate-say-3 : tie.Need-slice-aggregate-say-3
 slice-aggregate-say-3 c = search needs
@@ -100,7 +106,7 @@ answer-places-spec =
     sub-key
     part-key-start
     part-key-end
-    ipv4-requires
+    after-salt-requires ipv4-requires
     cells-of-requires
     bits-of-requires
     slice-aggregate-say-3

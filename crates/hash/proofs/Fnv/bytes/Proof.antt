@@ -10,10 +10,10 @@ use Rattle.hash.proofs.Fnv.bytes.Statement.{statement}
 use Rattle.hash.proofs.Fnv.bytes.Tie as tie
 
 abbrev Inv-loop : tie.InvT-loop
-Inv-loop s h₀ i₀ h i = (i ≤ length s) × (absorb (h .state) (drop i s) ≡ absorb (h₀ .state) s)
+Inv-loop s f₀ i₀ f i = (i ≤ length s) × (absorb (f .state) (drop i s) ≡ absorb (f₀ .state) s)
 
 abbrev μ-loop : tie.MeasureT-loop
-μ-loop s h₀ i₀ h i = length s - i
+μ-loop s f₀ i₀ f i = length s - i
 
 loop-holds : tie.Need-loop-holds Inv-loop μ-loop
 loop-holds c = (search needs, refl)
@@ -34,12 +34,12 @@ loop-again : tie.Need-loop-again Inv-loop μ-loop
 loop-again c = (
   omega arith,
   cc
-      (absorb-more (c .before .before .before .loop .h .state) (c .before .before .before .before .before .args .s .now)
+      (absorb-more (c .before .before .before .loop .f .state) (c .before .before .before .before .before .args .s .now)
       (c .before .before .before .loop .i) (omega arith)),
 )
 
 returns : tie.Need-returns Inv-loop μ-loop
-returns c = cc (absorb-none (c .before .loop .h .state) (c .before .before .before .args .s .now) (c .before .loop .i) (omega arith))
+returns c = cc (absorb-none (c .before .loop .f .state) (c .before .before .before .args .s .now) (c .before .loop .i) (omega arith))
 
 pub bytes-spec : {M : Type 1} → statement M
 bytes-spec =

@@ -10,10 +10,10 @@ use Rattle.hash.proofs.Lanes.bytes.Statement.{statement}
 use Rattle.hash.proofs.Lanes.bytes.Tie as tie
 
 abbrev Inv-loop : tie.InvT-loop
-Inv-loop s h₀ i₀ h i = (i ≤ length s) × (absorbAll (states h) (drop i s) ≡ absorbAll (states h₀) s)
+Inv-loop s f₀ i₀ f i = (i ≤ length s) × (absorbAll (states f) (drop i s) ≡ absorbAll (states f₀) s)
 
 abbrev μ-loop : tie.MeasureT-loop
-μ-loop s h₀ i₀ h i = length s - i
+μ-loop s f₀ i₀ f i = length s - i
 
 loop-holds : tie.Need-loop-holds Inv-loop μ-loop
 loop-holds c = (search needs, refl)
@@ -34,12 +34,12 @@ loop-again : tie.Need-loop-again Inv-loop μ-loop
 loop-again c = (
   omega arith,
   cc
-      (all-more (states (c .before .before .before .loop .h)) (c .before .before .before .before .before .args .s .now)
+      (all-more (states (c .before .before .before .loop .f)) (c .before .before .before .before .before .args .s .now)
       (c .before .before .before .loop .i) (omega arith)),
 )
 
 returns : tie.Need-returns Inv-loop μ-loop
-returns c = cc (all-none (states (c .before .loop .h)) (c .before .before .before .args .s .now) (c .before .loop .i) (omega arith))
+returns c = cc (all-none (states (c .before .loop .f)) (c .before .before .before .args .s .now) (c .before .loop .i) (omega arith))
 
 pub bytes-spec : {M : Type 1} → statement M
 bytes-spec =
