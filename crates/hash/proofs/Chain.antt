@@ -101,13 +101,10 @@ unfolding absorb afterRole
 role-after salt role p q = rw (q, p) (sym (absorb-append (bytesOf 4 salt) (role ∷ []) basis))
 
 -- the two states that are handed on
-pub salted-filter : (salt : ℕ) {h : Salted} → h ≡ afterSalt salt → h .filter .state ≡ afterRole salt filterRole
+pub states-two : (salt : ℕ) {h : Salted} → h ≡ afterSalt salt
+    → (h .filter .state ≡ afterRole salt filterRole) × (h .cells .state ≡ afterRole salt cellRole)
 unfolding afterSalt
-salted-filter salt e = ap (λ x. x .filter .state) e
-
-pub salted-cells : (salt : ℕ) {h : Salted} → h ≡ afterSalt salt → h .cells .state ≡ afterRole salt cellRole
-unfolding afterSalt
-salted-cells salt e = ap (λ x. x .cells .state) e
+states-two salt e = (ap (λ x. x .filter .state) e, ap (λ x. x .cells .state) e)
 
 pub two-states : (salt : ℕ) {h : Salted} → h .filter .state ≡ afterRole salt filterRole → h .cells .state ≡ afterRole salt cellRole
     → h ≡ afterSalt salt

@@ -3,7 +3,7 @@ use native.Mathlib.Omega.{arith}
 use borrow.Author.Needs.{needs}
 use Rattle.layout.proofs.Ranges.{filter-high}
 use Rattle.hash.specs.Places.{filterRole}
-use Rattle.hash.proofs.Chain.{salted-filter, all-after}
+use Rattle.hash.proofs.Chain.{states-two, all-after}
 use Rattle.hash.proofs.Apart.{bits-four, bits-few, bits-many}
 use Rattle.hash.proofs.bits_of.Statement.{statement}
 use Rattle.hash.proofs.bits_of.Tie as tie
@@ -24,7 +24,7 @@ returns : tie.Need-returns
 returns c =
     let s = c .before .before .before .before .before .before in
     let a = s .args in
-    let h = all-after (a .salt) filterRole 0 (a .key .now) (salted-filter (a .salt) (s .pre .1)) (c .before .hashes .ensures) in
+    let h = all-after (a .salt) filterRole 0 (a .key .now) (states-two (a .salt) (s .pre .1) .0) (c .before .hashes .ensures) in
     let p = c .places .ensures in
     bits-few (a .z) (a .salt) (a .key .now) (omega arith)
     (bits-four (a .z) (a .salt) (a .key .now) 0 (c .before .before .before .before .filter-bits .ensures) h (p .0) (p .1) (p .2) (p .3))
@@ -42,7 +42,7 @@ returns-2 : tie.Need-returns-2
 returns-2 c =
     let s = c .before .before .before .before .before .before .before in
     let a = s .args in
-    let f = salted-filter (a .salt) (s .pre .1) in
+    let f = states-two (a .salt) (s .pre .1) .0 in
     let e = c .before .before .before .before .before .filter-bits .ensures in
     let h = c .before .before .eight-hashes .ensures in
     let p = c .before .places2 .ensures in

@@ -2,7 +2,7 @@
 use native.Mathlib.Omega.{arith}
 use Rattle.layout.proofs.Ranges.{part-high}
 use Rattle.hash.specs.Places.{cellRole}
-use Rattle.hash.proofs.Chain.{salted-cells, chain-after}
+use Rattle.hash.proofs.Chain.{states-two, chain-after}
 use Rattle.hash.proofs.Apart.{cell-chosen}
 use borrow.Author.Needs.{needs}
 use Rattle.hash.proofs.cell_of.Statement.{statement}
@@ -30,7 +30,7 @@ returns c =
     let s = c .before .before .before .before .before .before in
     let a = s .args in
     cell-chosen (a .l) (a .z) (a .salt) (a .i) (a .key .now) (c .before .before .before .part-cells .ensures)
-    (chain-after (a .salt) cellRole (a .i) (a .key .now) (salted-cells (a .salt) (s .pre .3)) (c .before .before .byte .ensures) (c .before .bytes .ensures))
+    (chain-after (a .salt) cellRole (a .i) (a .key .now) (states-two (a .salt) (s .pre .3) .1) (c .before .before .byte .ensures) (c .before .bytes .ensures))
     (c .cell-in .ensures)
 
 pub cell-of-spec : {M : Type 1} → statement M

@@ -1,4 +1,5 @@
 use mathlib.Core.Path.{_∙_}
+use Prim.Native.Nat.{_<_}
 use native.Mathlib.Omega.{arith}
 use lib.ListN.{length-set}
 use Rattle.layout.specs.Sizes.{tableCells}
@@ -8,6 +9,9 @@ use borrow.Author.Needs.{needs}
 use Rattle.table.proofs.take_one.Statement.{statement}
 use Rattle.table.proofs.take_one.Tie as tie
 use Rattle.laws.proofs.Rows.{row-within}
+
+few : (s : tie.Start) → s .args .c < 1536
+few s = cell-few (s .args .l) (s .args .z) (s .pre .0) (s .pre .1)
 
 mul-xor-at : tie.Need-mul-xor-at
 mul-xor-at c =
@@ -22,9 +26,7 @@ xor-at-requires c κs =
     omega (arith, s .pre .0 .xors-fit, s .pre .2, w)
 
 mul-less : tie.Need-mul-less
-mul-less c =
-    let s = (c .before .before .before .before .before .before .before .before .before .before .before) in
-    omega (arith, cell-few (s .args .l) (s .args .z) (s .pre .0) (s .pre .1))
+mul-less c = omega (arith, few (c .before .before .before .before .before .before .before .before .before .before .before))
 
 slice-read-less : tie.Need-slice-read-less
 slice-read-less c = omega arith
@@ -33,17 +35,13 @@ less-requires : tie.Need-less-requires
 less-requires c κs = search needs
 
 mul-flows : tie.Need-mul-flows
-mul-flows c =
-    let s = (c .before .before .before .before .before .before .before .before .before .before .before .before .before) in
-    omega (arith, cell-few (s .args .l) (s .args .z) (s .pre .0) (s .pre .1))
+mul-flows c = omega (arith, few (c .before .before .before .before .before .before .before .before .before .before .before .before .before))
 
 slice-write-flows : tie.Need-slice-write-flows
 slice-write-flows c = omega arith
 
 mul-wrapping-add-u16 : tie.Need-mul-wrapping-add-u16
-mul-wrapping-add-u16 c =
-    let s = (c .before .before .before .before .before .before .before .before .before .before .before .before .before) in
-    omega (arith, cell-few (s .args .l) (s .args .z) (s .pre .0) (s .pre .1))
+mul-wrapping-add-u16 c = omega (arith, few (c .before .before .before .before .before .before .before .before .before .before .before .before .before))
 
 slice-read-wrapping-add-u16 : tie.Need-slice-read-wrapping-add-u16
 slice-read-wrapping-add-u16 c = omega arith
@@ -52,25 +50,19 @@ wrapping-add-u16-requires : tie.Need-wrapping-add-u16-requires
 wrapping-add-u16-requires c κs = search needs
 
 mul-unknowns : tie.Need-mul-unknowns
-mul-unknowns c =
-    let s = (c .before .before .before .before .before .before .before .before .before .before .before .before .before .before .before) in
-    omega (arith, cell-few (s .args .l) (s .args .z) (s .pre .0) (s .pre .1))
+mul-unknowns c = omega (arith, few (c .before .before .before .before .before .before .before .before .before .before .before .before .before .before .before))
 
 slice-write-unknowns : tie.Need-slice-write-unknowns
 slice-write-unknowns c = omega arith
 
 mul-positions : tie.Need-mul-positions
-mul-positions c =
-    let s = (c .before .before .before .before .before .before .before .before .before .before .before .before .before .before .before) in
-    omega (arith, cell-few (s .args .l) (s .args .z) (s .pre .0) (s .pre .1))
+mul-positions c = omega (arith, few (c .before .before .before .before .before .before .before .before .before .before .before .before .before .before .before))
 
 slice-read-positions : tie.Need-slice-read-positions
 slice-read-positions c = omega arith
 
 mul-positions-2 : tie.Need-mul-positions-2
-mul-positions-2 c =
-    let s = (c .before .before .before .before .before .before .before .before .before .before .before .before .before .before .before .before) in
-    omega (arith, cell-few (s .args .l) (s .args .z) (s .pre .0) (s .pre .1))
+mul-positions-2 c = omega (arith, few (c .before .before .before .before .before .before .before .before .before .before .before .before .before .before .before .before))
 
 slice-write-positions : tie.Need-slice-write-positions
 slice-write-positions c = omega arith
