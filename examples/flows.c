@@ -54,7 +54,7 @@ static void print_flow(const uint8_t *key, int known, uint32_t count) {
 }
 
 static int print_flows(uint32_t slot, size_t length) {
-    static const char *const states[] = {"whole", "short", "stuck"};
+    static const char *const states[] = {"whole", "short", "stuck", "stray"};
     uint32_t numbers[ELDERFLUTE_NUMBERS];
     size_t listed, block, cell, figures[ELDERFLUTE_FIGURES];
 

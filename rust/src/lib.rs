@@ -191,12 +191,14 @@ pub struct Stopped {
 /// State of a report.
 #[derive(Clone, Copy, PartialEq, Eq, Debug)]
 pub enum State {
-    /// No cell has a flow left, every listed flow has its count.
+    /// Every listed flow has its count, and the cells are all zero.
     Whole,
     /// No cell has a flow left, a count is unknown.
     Short,
     /// Some cells still hold flows.
     Stuck,
+    /// No cell has a flow left, every listed flow has a count, but a cell is not zero: none of the counts is to be trusted.
+    Stray,
 }
 
 /// What stands in list and cells.
@@ -455,7 +457,7 @@ impl Session {
             )
         })?;
         let [listed, counted, open, state] = figures;
-        let state = [State::Whole, State::Short, State::Stuck].get(state).copied().ok_or(Unknown)?;
+        let state = [State::Whole, State::Short, State::Stuck, State::Stray].get(state).copied().ok_or(Unknown)?;
         Ok(Report { listed, counted, open, state })
     }
 

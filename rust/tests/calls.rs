@@ -112,6 +112,21 @@ fn an_image_is_read_or_refused_with_its_block() {
 }
 
 #[test]
+fn what_is_left_over_is_stray() {
+    let image = image_of(30);
+    let mut room = Owned::new(SIZES);
+    let mut session = open(&image, SLOT, &mut room.lend()).unwrap();
+    session.settle(&mut room.lend()).unwrap();
+    let state = |room: &mut Owned| session.report(&room.lend()).unwrap().state;
+    assert_eq!(state(&mut room), State::Whole);
+    room.packets[0] = 1;
+    assert_eq!(state(&mut room), State::Stray);
+    room.packets[0] = 0;
+    *room.xors.last_mut().unwrap() = 1;
+    assert_eq!(state(&mut room), State::Stray);
+}
+
+#[test]
 fn flows_come_back_with_their_packets() {
     let image = image_of(30);
     let mut room = Owned::new(SIZES);

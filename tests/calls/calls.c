@@ -227,7 +227,7 @@ static void hand_over(struct session *s, const uint8_t *key, int with_listed) {
     take_back(lent_key);
 }
 
-static const char *const states[] = {"whole", "short", "stuck"};
+static const char *const states[] = {"whole", "short", "stuck", "stray"};
 
 /* The lines of a session, by its figures and its list. */
 static size_t expected_lines(const struct session *s, const size_t *figures, char *to) {

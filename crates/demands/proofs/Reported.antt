@@ -1,35 +1,49 @@
--- The report counts the list and the cells that stand there.
-use mathlib.Core.Path.{_≡_, sym, ap₂, _∙_}
-use mathlib.Core.Bool.{not}
+-- The report counts the list and the cells that stand there; what whole means.
+use mathlib.Core.Path.{_≡_, sym, ap, ap₂, subst, _∙_}
+use mathlib.Core.Bool.{Bool, true, false, not, _&&_}
+use mathlib.Core.List.{List}
 use mathlib.Core.Logic.{inl, inr}
-use Prim.Native.Nat.{ℕ, _-_}
+use Prim.Native.Nat.{ℕ, _-_, _*_}
 use native.Mathlib.Omega.{arith}
-use lib.Dec.{ltb}
-use lib.ListN.{length}
-use Rattle.laws.proofs.Bools.{split}
-use Rattle.laws.proofs.Upto.{length-list}
-use Rattle.laws.proofs.Lowest.{number-rest}
+use borrow.Author.Tests.{eq-eqb, lt-ltb, le-ltb, ltb-false}
+use lib.Dec.{eqb, ltb}
+use lib.ListN.{length, getD, take, drop, replicate}
+use Rattle.laws.specs.Upto.{allUpto}
+use Rattle.laws.specs.Zeros.{allZero}
+use Rattle.laws.proofs.Bools.{split, and-l, and-r, and-i}
+use Rattle.laws.proofs.Lists.{zero-at}
+use Rattle.laws.proofs.Upto.{length-list, all-yes, all-same}
+use Rattle.laws.proofs.Lowest.{number-rest, number-max, number-some, number-none}
+use Rattle.laws.proofs.Zeros.{zero-list, list-zero, zero-rows, all-both}
 use Rattle.layout.specs.declared.Layout.{Layout}
 use Rattle.layout.specs.Sizes.{tableCells}
-use Rattle.list.specs.Records.{Records, isKnown}
+use Rattle.list.specs.Records.{Records, keyAt, isKnown}
 use Rattle.table.specs.Table.{openIn}
-use Rattle.summary.specs.Report.{countedIn, stateOf, reportOf}
-use Rattle.session.specs.Calls.{reportOn}
-use Rattle.session.proofs.Laws.{report-passes}
+use Rattle.test8.specs.Given.{flagSet}
+use Rattle.room.specs.declared.Session.{Session}
+use Rattle.room.specs.Memory.{Memory}
+use Rattle.summary.specs.declared.Report.{Report}
+use Rattle.summary.specs.declared.State.the-variants.{Whole}
+use Rattle.summary.specs.Report.{countedIn, nothingLeft, stateOf, reportOf}
+use Rattle.session.specs.Calls.{reportIn, reportOn}
+use Rattle.session.proofs.Laws.{report-passes, told-is}
 use Rattle.session.specs.declared.Reported.the-variants.{Told}
 use Rattle.theory.specs.Session.{keysWhere, unknownsOf, openCells}
 use Rattle.theory.specs.Report as theory
-use Rattle.link.specs.View.{recordAt, recordsOf}
+use Rattle.link.specs.View.{recordAt, recordsOf, below, cellsOf}
 use Rattle.link.proofs.Given.{where-number}
 use Rattle.link.proofs.Test8.{open-is}
 use Rattle.demands.specs.Calls.{Live, viewed, Passing}
-use Rattle.demands.specs.Demands.{reportAs, stateAs}
+use Rattle.demands.specs.Demands.{reportAs, stateAs, CellsZero}
 use Rattle.demands.proofs.Steps.{tests-pass}
 
-state-is : (opens unknown : ℕ) → stateAs (stateOf opens unknown) ≡ theory.stateOf opens unknown
-state-is opens unknown = elim (split (ltb 0 opens)) [
+state-is : (opens unknown : ℕ) (nothing : Bool) → stateAs (stateOf opens unknown nothing) ≡ theory.stateOf opens unknown nothing
+state-is opens unknown nothing = elim (split (ltb 0 opens)) [
   | inl a ↦ rw a
-  | inr a ↦ elim (split (ltb 0 unknown)) [ inl b ↦ rw (a, b) | inr b ↦ rw (a, b) ]
+  | inr a ↦ elim (split (ltb 0 unknown)) [
+    | inl b ↦ rw (a, b)
+    | inr b ↦ elim (split nothing) [ inl d ↦ rw (a, b, d) | inr d ↦ rw (a, b, d) ]
+  ]
 ]
 
 report-path : {a b : theory.Report} → a .listed ≡ b .listed → a .counted ≡ b .counted → a .opens ≡ b .opens → a .state ≡ b .state → a ≡ b
@@ -57,13 +71,84 @@ module _ (l : Layout) (v : Live) (p : Passing l v) where
   opens-is = rw (p .lent .table .flows-fit)
       (sym (open-is l (v .numbers .sizes) (v .numbers .salt) n (v .room .table) (v .room .packets) rs (p .lent)))
 
+  nothing-is : nothingLeft (v .room .table .xors) (v .room .packets) ≡ theory.nothingLeft size (viewed l v .cells)
+  unfolding nothingLeft theory.nothingLeft allZero cellsOf below keyAt
+  nothing-is =
+      let xors = v .room .table .xors in
+      let packets = v .room .packets in
+      let key : ℕ → Bool = λ c. allZero (take (l .key) (drop (c * l .key) xors)) in
+      let none : ℕ → Bool = λ c. eqb (getD packets c 0) 0 in
+      ap₂ (λ a b. a && b) (zero-rows size (l .key) xors (p .lent .table .xors-fit)) (ap (λ n. allUpto n none) (p .lent .packets-fit))
+      ∙ sym (all-both size key none)
+      ∙ all-same size (λ c. key c && none c) (λ c. allZero (viewed l v .cells c .flowXor) && eqb (viewed l v .cells c .packetCount) 0)
+      (λ c h. rw (lt-ltb c size h))
+
   -- Theorem: 01 'A session', Report: "worked out anew from list and cells"
-  pub report-counts : (reportOn l (v .numbers) (v .room) ≡ Told (reportOf n (v .room .table .flows) (rs .flags)))
-      × (reportAs (reportOf n (v .room .table .flows) (rs .flags)) ≡ theory.report size (viewed l v))
+  pub report-counts : (reportOn l (v .numbers) (v .room) ≡ Told (reportIn n (v .room)))
+      × (reportAs (reportIn n (v .room)) ≡ theory.report size (viewed l v))
   unfolding reportOf theory.report
   report-counts = (
     report-passes l (v .numbers) (v .room) (tests-pass l v p),
     report-path (sym (length-list n (recordAt l rs))) counted-is opens-is
         (state-is (openIn (length (v .room .table .flows)) (v .room .table .flows)) (n - countedIn n (rs .flags))
-        ∙ ap₂ theory.stateOf opens-is unknown-is),
+        (nothingLeft (v .room .table .xors) (v .room .packets))
+        ∙ ap₂ (λ (f : Bool → theory.State) b. f b) (ap₂ theory.stateOf opens-is unknown-is) nothing-is),
   )
+
+-- ---- what whole means
+flows-zero : (flows : List ℕ) → openIn (length flows) flows ≡ 0 → allZero flows ≡ true
+unfolding openIn allZero
+flows-zero flows e = all-yes (length flows) (λ c. eqb (getD flows c 0) 0) (λ c h. eq-eqb (getD flows c 0) 0 (elim (split (ltb 0 (getD flows c 0))) [
+  | inl a ↦ absurd (omega (arith, e, number-some (length flows) (λ j. ltb 0 (getD flows j 0)) c h a))
+  | inr a ↦ omega (arith, ltb-false 0 (getD flows c 0) a)
+]))
+
+zero-open : (flows : List ℕ) → flows ≡ replicate (length flows) 0 → openIn (length flows) flows ≡ 0
+unfolding openIn
+zero-open flows e = number-none (length flows) (λ c. ltb 0 (getD flows c 0))
+    (λ c h. le-ltb 0 (getD flows c 0) (omega (arith, ap (λ s. getD s c 0) e ∙ zero-at (length flows) c)))
+
+whole-only : (opens unknown : ℕ) (nothing : Bool) → stateOf opens unknown nothing ≡ Whole → (opens ≡ 0) × (unknown ≡ 0) × (nothing ≡ true)
+whole-only opens unknown nothing z = elim (split (ltb 0 opens)) [
+  | inl a ↦ absurd (let h = rw a at z in let q : _≡_ {A = ℕ} 0 1 = cc in omega arith)
+  | inr a ↦ elim (split (ltb 0 unknown)) [
+    | inl b ↦ absurd (let h = rw (a, b) at z in let q : _≡_ {A = ℕ} 0 1 = cc in omega arith)
+    | inr b ↦ elim (split nothing) [
+      | inr d ↦ absurd (let h = rw (a, b, d) at z in let q : _≡_ {A = ℕ} 0 1 = cc in omega arith)
+      | inl d ↦ (omega (arith, ltb-false 0 opens a), omega (arith, ltb-false 0 unknown b), d)
+    ]
+  ]
+]
+
+-- a report says whole just where the cells are all zero and every listed flow has its count
+abbrev Whole-says : Memory → Report → Type 0
+Whole-says m r = (r .state ≡ Whole → CellsZero m × (r .counted ≡ r .listed)) × (CellsZero m → r .counted ≡ r .listed → r .state ≡ Whole)
+
+whole-in : (n : ℕ) (m : Memory) → Whole-says m (reportIn n m)
+unfolding reportOf nothingLeft countedIn
+whole-in n m =
+    let xors = m .table .xors in
+    let flows = m .table .flows in
+    let packets = m .packets in
+    let known = number-max n (λ i. flagSet 0 (getD (m .list .flags) i 0)) in (
+      λ z.
+          let w = whole-only (openIn (length flows) flows) (n - countedIn n (m .list .flags)) (nothingLeft xors packets) z in (
+            record {
+              xors = zero-list xors (and-l (allZero xors) (allZero packets) (w .2));
+              flows = zero-list flows (flows-zero flows (w .0));
+              packets = zero-list packets (and-r (allZero xors) (allZero packets) (w .2));
+            },
+            omega (arith, w .1, known),
+          ),
+      λ zero counted. rw (
+        zero-open flows (zero .flows),
+        le-ltb 0 (n - countedIn n (m .list .flags)) (omega (arith, counted)),
+        list-zero xors (zero .xors),
+        list-zero packets (zero .packets),
+      ),
+    )
+
+-- Theorem: so does the report's call on any session
+pub whole-means : (l : Layout) (s : Session) (m : Memory) (r : Report) → reportOn l s m ≡ Told r
+    → (r .state ≡ Whole → CellsZero m × (r .counted ≡ r .listed)) × (CellsZero m → r .counted ≡ r .listed → r .state ≡ Whole)
+whole-means l s m r e = subst (Whole-says m) (told-is l s m e) (whole-in (s .listed) m)

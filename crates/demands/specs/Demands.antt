@@ -3,6 +3,7 @@ use mathlib.Core.Path.{_≡_}
 use mathlib.Core.List.{List}
 use mathlib.Core.Option.{Option, some, none}
 use Prim.Native.Nat.{ℕ, _^_, _<_}
+use lib.ListN.{length, replicate}
 use Rattle.layout.specs.declared.Layout.{Layout}
 use Rattle.layout.specs.declared.Sizes.{Sizes}
 use Rattle.layout.specs.Sizes.{tableCells}
@@ -43,6 +44,7 @@ pub record Received (l : Layout) (z : Sizes) (salt slot : ℕ) (m : encoder.Memo
 abbrev pub stateAs : State → theory.State
 stateAs state.Stuck = theory.stuck
 stateAs state.Short = theory.short
+stateAs state.Stray = theory.stray
 stateAs state.Whole = theory.whole
 
 -- the numbers of a report as the theory has them
@@ -54,6 +56,12 @@ abbrev pub toldBy : Reported → Option theory.Report
 toldBy (reported.Told r) = some (reportAs r)
 toldBy reported.NotSession = none
 toldBy reported.BadRoom = none
+
+-- 02 b: "every FlowXOR and PacketCount to be zero", and no FlowCount above 0: the cells of lent room are all zero
+pub record CellsZero (m : Memory) : Type 0 where
+  pub xors : m .table .xors ≡ replicate (length (m .table .xors)) 0
+  pub flows : m .table .flows ≡ replicate (length (m .table .flows)) 0
+  pub packets : m .packets ≡ replicate (length (m .packets)) 0
 
 -- what the calls show of a session: its cells and list, the report call, and the settle call's number and what it leaves
 abbrev pub shown : Layout → Live → Shown

@@ -18,7 +18,7 @@ use Rattle.session.specs.declared.Reported.the-variants as reported
 use Rattle.session.specs.Calls.{reportOn, reportNumber}
 use Rattle.session.proofs.Reported as declared
 use Rattle.lines.specs.Text.{Put}
-use Rattle.printing.specs.Print.{mostWritten, listedLines}
+use Rattle.printing.specs.Print.{mostWritten, roomLines}
 use Rattle.printing.proofs.Settled.{Listed, told-listed}
 use Rattle.elderflute.specs.Sessions.{printing, linesLeave, linesOf}
 
@@ -53,7 +53,7 @@ module _ (s : Session) (lines : List ℕ) (written : ℕ) (m : Memory) where
   lines-room h f = rw (h, ne-eqb (length lines) mostWritten f)
 
   abbrev text : List ℕ
-  text = listedLines (s .slot) (s .salt) (s .listed) (m .table .flows) (m .list)
+  text = roomLines (s .slot) (s .salt) (s .listed) m
 
   module _ (h : inRange (s .sizes) ≡ true) (f : length lines ≡ mostWritten) (a : Reported) (e : a ≡ reportOn ipv4Layout s m) where
     tested-all : linesLeave (reportOn ipv4Layout s m) text lines written ≡ linesOf s lines written m

@@ -5,7 +5,7 @@ use lib.ListN.{getD}
 use Rattle.layout.specs.declared.Sizes.{Sizes}
 use Rattle.room.specs.declared.Session.{Session}
 use Rattle.summary.specs.declared.State.{State}
-use Rattle.summary.specs.declared.State.the-variants.{Stuck, Short, Whole}
+use Rattle.summary.specs.declared.State.the-variants.{Stuck, Short, Stray, Whole}
 use Rattle.summary.specs.declared.Report.{Report}
 
 -- version 0.1.0 as one number: 1,000,000 times its first number, 1,000 times its second, and its third
@@ -32,6 +32,7 @@ abbrev pub stateNumber : State → ℕ
 stateNumber Whole = 0
 stateNumber Short = 1
 stateNumber Stuck = 2
+stateNumber Stray = 3
 
 -- 01 'A session', Report: "listed, counted (known counts), open (cells with FlowCount above 0), .. and a state"
 abbrev pub figuresOf : Report → List ℕ

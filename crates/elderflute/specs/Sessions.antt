@@ -15,7 +15,7 @@ use Rattle.session.specs.declared.Settled.the-variants as settled
 use Rattle.session.specs.declared.Reported.{Reported}
 use Rattle.session.specs.declared.Reported.the-variants as reported
 use Rattle.session.specs.Calls.{handOver, handOverNumber, settleOf, settleNumber, reportOn, reportNumber}
-use Rattle.printing.specs.Print.{mostWritten, listedLines, printed}
+use Rattle.printing.specs.Print.{mostWritten, roomLines, printed}
 use Rattle.elderflute.specs.Numbers.{sessionOf, figuresOf}
 
 -- ---- hand-over: 01's number, how many flows are then listed, and the lent room
@@ -119,7 +119,7 @@ unfoldable pub linesOf : Session → List ℕ → ℕ → Memory → Printing
 linesOf s lines written m =
     cond (not (inRange (s .sizes))) (printing 8 lines written)
     (cond (not (eqb (length lines) mostWritten)) (printing 16 lines written)
-    (linesLeave (reportOn ipv4Layout s m) (listedLines (s .slot) (s .salt) (s .listed) (m .table .flows) (m .list)) lines written))
+    (linesLeave (reportOn ipv4Layout s m) (roomLines (s .slot) (s .salt) (s .listed) m) lines written))
 
 abbrev pub linesCall : List ℕ → ℕ → List ℕ → ℕ → Memory → Printing
 linesCall numbers listed lines written m = linesOf (sessionOf numbers listed) lines written m

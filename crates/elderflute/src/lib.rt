@@ -520,6 +520,7 @@ fn state_number(s: State) -> usize
         State::Whole => 0,
         State::Short => 1,
         State::Stuck => 2,
+        State::Stray => 3,
     }
 }
 
@@ -654,6 +655,17 @@ pub extern "C" fn elderflute_lines(
     let Reported::Told(_) = a else {
         return report_number(a);
     };
-    *written = printing::put_listed(lines, s.slot, s.salt, s.listed, flows, keys, counts, flags);
+    *written = printing::put_listed(
+        lines,
+        s.slot,
+        s.salt,
+        s.listed,
+        xors,
+        flows,
+        packets,
+        keys,
+        counts,
+        flags,
+    );
     0
 }

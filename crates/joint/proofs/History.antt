@@ -1,10 +1,11 @@
 -- Demands 2 and 3 after any sequence of hand-overs, settlings and exchanges, from the packets taken on.
-use mathlib.Core.Path.{ap, _∙_}
+use mathlib.Core.Path.{_≡_, ap, _∙_}
 use mathlib.Core.List.{List, [], _∷_}
+use mathlib.Core.Option.{some}
 use Prim.Native.Nat.{ℕ}
 use Rattle.layout.specs.declared.Layout.{Layout}
 use Rattle.layout.specs.declared.Sizes.{Sizes}
-use Rattle.layout.specs.Sizes.{Lays, ipv4Layout}
+use Rattle.layout.specs.Sizes.{Lays, ipv4Layout, tableCells}
 use Rattle.layout.proofs.Ranges.{lays-ipv4}
 use Rattle.meaning.specs.Meaning as encoder
 use Rattle.meaning.proofs.Meaning.{packets-mean}
@@ -12,10 +13,12 @@ use Rattle.theory.specs.Encode.{Key, Taken}
 use Rattle.theory.specs.Session.{handedOf, handedOver}
 use Rattle.theory.specs.HandOver.{Switch, Call, hand, settling}
 use Rattle.theory.specs.Invariant.{Counted}
+use Rattle.theory.specs.Report.{stray, Report, reportBefore}
 use Rattle.theory.specs.Demands.{Premises, HandedCounted}
 use Rattle.theory.proofs.HandOver.{handed-stays}
+use Rattle.theory.proofs.Stray.{demand-unchanged, demand-never-stray}
 use Rattle.demands.specs.Calls.{Live, callsOn, KeysFit, viewed, switchAt, Passing}
-use Rattle.demands.specs.Demands.{Received, Demand2At, Demand3At, StandsAt}
+use Rattle.demands.specs.Demands.{Received, shown, Demand2At, Demand3At, StandsAt}
 use Rattle.demands.proofs.Steps.{calls-follow}
 use Rattle.demands.proofs.Standing.{stands-2, stands-3, calls-stand}
 use Rattle.demands.proofs.Demands.{w, F, opened-stands}
@@ -82,6 +85,13 @@ module _ (z : Sizes) (salt slot : ℕ) (packets : List (List ℕ)) (v : Live) (r
   pub sequence-2 : Demand2At ipv4Layout z salt (encoder.takenIn z salt packets) u
   sequence-2 = history-2 ipv4Layout lays-ipv4 z salt slot (encoder.packetsRun z salt packets) (encoder.takenIn z salt packets)
       (packets-mean z salt packets) v rc u h premises
+
+  -- Theorem (02 b): "on clean flowsets .. no answer changes": the report is the one without 02 b, and its state never stray
+  pub sequence-unchanged : shown ipv4Layout u .told ≡ some (reportBefore (tableCells ipv4Layout z) (viewed ipv4Layout u))
+  sequence-unchanged = demand-unchanged _ _ _ _ _ (shown ipv4Layout u) sequence-2
+
+  pub sequence-never-stray : (r : Report) → shown ipv4Layout u .told ≡ some r → r .state ≡ stray → ⊥
+  sequence-never-stray = demand-never-stray _ _ _ _ _ (shown ipv4Layout u) sequence-2
 
   -- Theorem (demand 3): and a settling
   pub sequence-3 : Demand3At ipv4Layout z salt (encoder.takenIn z salt packets) (handedOf (viewed ipv4Layout u .list)) u

@@ -11,7 +11,7 @@ use Rattle.packet.specs.declared.Key.{Key}
 use Rattle.packet.specs.Key.{InRange}
 use Rattle.summary.specs.declared.Report.{Report}
 use Rattle.summary.specs.declared.State.{State}
-use Rattle.summary.specs.declared.State.the-variants.{Stuck, Short, Whole}
+use Rattle.summary.specs.declared.State.the-variants.{Stuck, Short, Stray, Whole}
 use Rattle.lines.specs.Text.{Put, space, dot, feed, decimal, followed, spaced, dotted}
 use Rattle.lines.specs.Text.{endpoint, countText, flowLine, stateText, reportText, headLine, refusedLine}
 use Rattle.laws.proofs.Lists.{sets-append}
@@ -65,6 +65,7 @@ length-flow key known count = simp length-append
 pub length-state : (s : State) → length (stateText s) ≡ 5
 length-state Stuck = refl
 length-state Short = refl
+length-state Stray = refl
 length-state Whole = refl
 
 pub length-report : (r : Report) → length (reportText r)

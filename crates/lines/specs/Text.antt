@@ -9,7 +9,7 @@ use lib.Seq.{sets}
 use Rattle.laws.specs.Upto.{lowest}
 use Rattle.packet.specs.declared.Key.{Key}
 use Rattle.summary.specs.declared.State.{State}
-use Rattle.summary.specs.declared.State.the-variants.{Stuck, Short, Whole}
+use Rattle.summary.specs.declared.State.the-variants.{Stuck, Short, Stray, Whole}
 use Rattle.summary.specs.declared.Report.{Report}
 
 -- a text written over a list from place `at` on, and the place after it; the text ends within the list
@@ -71,10 +71,11 @@ flowLine key known count =
     endpoint (key .source) (key .sport)
     ++ (endpoint (key .destination) (key .dport) ++ (spaced (key .protocol) ++ (countText known count ++ (feed ∷ []))))
 
--- the states as words: stuck, short, whole
+-- the states as words: stuck, short, stray, whole
 abbrev pub stateText : State → List ℕ
 stateText Stuck = 115 ∷ 116 ∷ 117 ∷ 99 ∷ 107 ∷ []
 stateText Short = 115 ∷ 104 ∷ 111 ∷ 114 ∷ 116 ∷ []
+stateText Stray = 115 ∷ 116 ∷ 114 ∷ 97 ∷ 121 ∷ []
 stateText Whole = 119 ∷ 104 ∷ 111 ∷ 108 ∷ 101 ∷ []
 
 -- 01 'Printing program': "listed, counted, open and state", to the end of the line

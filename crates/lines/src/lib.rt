@@ -141,6 +141,7 @@ fn word_of(state: State) -> [u8; 5]
     match state {
         State::Stuck => [b's', b't', b'u', b'c', b'k'],
         State::Short => [b's', b'h', b'o', b'r', b't'],
+        State::Stray => [b's', b't', b'r', b'a', b'y'],
         State::Whole => [b'w', b'h', b'o', b'l', b'e'],
     }
 }

@@ -1,6 +1,6 @@
 -- 01 'Printing program': an empty flowset, of any sizes, prints its slot and salt, three zeros and `whole`.
 use mathlib.Core.Path.{_≡_, refl, sym, ap, ap₂, _∙_}
-use mathlib.Core.Bool.{Bool, false}
+use mathlib.Core.Bool.{Bool, true, false}
 use mathlib.Core.List.{List, [], _∷_, _++_, append-nil}
 use Prim.Native.Nat.{ℕ, zero, suc, _+_, _-_, _*_, _/_, _%_, _^_, _<_}
 use native.Mathlib.Omega.{arith}
@@ -11,17 +11,19 @@ use lib.ListN.{length, getD, set, replicate, length-replicate}
 use lib.Seq.{set-getD}
 use Rattle.laws.specs.BigEndian.{bytesOf, numberOf}
 use Rattle.laws.specs.Upto.{joinUpto, numberUpto}
+use Rattle.laws.specs.Zeros.{allZero}
 use Rattle.laws.proofs.BigEndian.{number-zeros}
 use Rattle.laws.proofs.Lists.{zero-at, part-zeros}
 use Rattle.laws.proofs.Lowest.{number-none}
-use Rattle.laws.proofs.Rows.{row-within}
+use Rattle.laws.proofs.Rows.{row-within, length-join, join-part}
 use Rattle.laws.proofs.Upto.{each-keeps, all-yes, list-at, length-list}
+use Rattle.laws.proofs.Zeros.{zero-rows, zeros-zero}
 use Rattle.layout.specs.declared.Layout.{Layout}
 use Rattle.layout.specs.declared.Sizes.{Sizes}
 use Rattle.layout.specs.Sizes.{Ranged, ipv4Layout, tableCells, cellBytes, filterBytes}
 use Rattle.layout.proofs.Ranges.{lays-ipv4, range-test}
 use Rattle.fields.specs.Field.{field}
-use Rattle.cell.specs.Cell.{flowCountAt}
+use Rattle.cell.specs.Cell.{flowXorAt, flowCountAt, packetCountAt}
 use Rattle.block.specs.Block.{imageOf, zeroBytes}
 use Rattle.sealing.specs.Seal.{Sealable}
 use Rattle.reading.specs.declared.Reading.the-variants.{Image}
@@ -41,13 +43,13 @@ use Rattle.settling.specs.Settle.{afterCounts, thenCounts}
 use Rattle.room.specs.declared.Session.{Session}
 use Rattle.room.specs.Memory.{Memory, memory}
 use Rattle.room.proofs.Laws.{rooms-asked}
-use Rattle.opening.specs.Open.{xorsIn, flowsIn, marksOf, openedMemory}
+use Rattle.opening.specs.Open.{xorsIn, flowsIn, packetsIn, marksOf, openedMemory}
 use Rattle.opening.proofs.Answers.{opened-rooms, opened-session}
 use Rattle.summary.specs.declared.Report.{Report}
 use Rattle.summary.specs.declared.State.the-variants.{Whole}
-use Rattle.summary.specs.Report.{countedIn, reportOf}
+use Rattle.summary.specs.Report.{countedIn, nothingLeft, reportOf}
 use Rattle.session.specs.declared.Settled.the-variants as settled
-use Rattle.session.specs.Calls.{Settling, settlingTo, settleLeaves, settleOf, indexOf}
+use Rattle.session.specs.Calls.{Settling, settlingTo, settleLeaves, settleOf, reportIn, indexOf}
 use Rattle.session.proofs.Answers.{Passes}
 use Rattle.session.proofs.Laws.{settle-passes}
 use Rattle.lines.specs.Text.{headLine}
@@ -97,15 +99,15 @@ module _ (l : Layout) (z : Sizes) (salt : ℕ) (t : Tab) (packets : List ℕ) (r
   unfolding settling.settleOf thenCounts afterCounts countsOf countsUpto
   settle-none = rw peels-none
 
--- ---- nothing is listed and nothing is open
+-- ---- nothing is listed, nothing is open and nothing is left
 abbrev emptyReport : Report
 emptyReport = record { listed = 0; counted = 0; opens = 0; state = Whole }
 
-empty-report : (flows flags : List ℕ) → ((c : ℕ) → c < length flows → getD flows c 0 ≡ 0)
-    → reportOf 0 flows flags ≡ emptyReport
-unfolding reportOf countedIn openIn numberUpto
-empty-report flows flags h =
-    rw (number-none (length flows) (λ c. ltb 0 (getD flows c 0)) (λ c q. le-ltb 0 (getD flows c 0) (omega (arith, h c q))))
+empty-report : (xors flows packets flags : List ℕ) → allZero xors ≡ true → ((c : ℕ) → c < length flows → getD flows c 0 ≡ 0)
+    → allZero packets ≡ true → reportOf 0 xors flows packets flags ≡ emptyReport
+unfolding reportOf countedIn openIn numberUpto nothingLeft
+empty-report xors flows packets flags e h f =
+    rw (e, f, number-none (length flows) (λ c. ltb 0 (getD flows c 0)) (λ c q. le-ltb 0 (getD flows c 0) (omega (arith, h c q))))
 
 -- ---- an image of cleared memory
 module _ (z : Sizes) (r : Ranged z) where
@@ -127,6 +129,17 @@ module _ (z : Sizes) (r : Ranged z) where
   count-zero c h =
       ap numberOf (part-zeros (tableCells ipv4Layout z * 20) (c * 20 + 13 + 1) 2 (omega (arith, row-within c (tableCells ipv4Layout z) 20 h)))
       ∙ number-zeros 2
+
+  -- and so are every FlowXOR and PacketCount
+  xor-zero : (c : ℕ) → c < tableCells ipv4Layout z → flowXorAt ipv4Layout cells c ≡ zeros 13
+  unfolding flowXorAt cellBytes
+  xor-zero c h = part-zeros (tableCells ipv4Layout z * 20) (c * 20) 13 (omega (arith, row-within c (tableCells ipv4Layout z) 20 h))
+
+  packets-zero : (c : ℕ) → c < tableCells ipv4Layout z → packetCountAt ipv4Layout cells c ≡ 0
+  unfolding packetCountAt field cellBytes
+  packets-zero c h =
+      ap numberOf (part-zeros (tableCells ipv4Layout z * 20) (c * 20 + 13 + 3) 4 (omega (arith, row-within c (tableCells ipv4Layout z) 20 h)))
+      ∙ number-zeros 4
 
   module _ (salt slot : ℕ) (p : salt < 2 ^ 32) (q : slot < 2 ^ 32) where
     abbrev image : List ℕ
@@ -151,6 +164,24 @@ module _ (z : Sizes) (r : Ranged z) where
     unfolding flowsIn
     flows-long = length-list (tableCells ipv4Layout z) (flowCountAt ipv4Layout (cellsIn ipv4Layout z image))
 
+    xors-left : allZero (xorsIn ipv4Layout z image) ≡ true
+    unfolding xorsIn
+    xors-left =
+        let n = tableCells ipv4Layout z in
+        let f : ℕ → List ℕ = flowXorAt ipv4Layout (cellsIn ipv4Layout z image) in
+        let is : (c : ℕ) → c < n → f c ≡ zeros 13 = λ c h. ap (λ (s : List ℕ). flowXorAt ipv4Layout s c) (back .2) ∙ xor-zero c h in
+        let long : (c : ℕ) → c < n → length (f c) ≡ 13 = λ c h. ap length (is c h) in
+        zero-rows n 13 (joinUpto n f) (length-join n 13 f long)
+        ∙ all-yes n _ (λ c h. ap allZero (join-part n 13 f long c h ∙ is c h) ∙ zeros-zero 13)
+
+    packets-left : allZero (packetsIn ipv4Layout z image) ≡ true
+    unfolding packetsIn allZero
+    packets-left =
+        let n = tableCells ipv4Layout z in
+        let f : ℕ → ℕ = packetCountAt ipv4Layout (cellsIn ipv4Layout z image) in
+        all-yes _ _ (λ c h. eq-eqb _ 0 (list-at n f 0 c (omega (arith, length-list n f))
+        ∙ ap (λ (s : List ℕ). packetCountAt ipv4Layout s c) (back .2) ∙ packets-zero c (omega (arith, length-list n f))))
+
     passes : Passes ipv4Layout start opened
     passes =
         let a = accepted ipv4Layout z salt slot image (back .0) in
@@ -173,8 +204,9 @@ module _ (z : Sizes) (r : Ranged z) where
     unfolding sessionLines settledLines listedLines joinUpto openedMemory
     lines =
         ap (λ (x : Settling). settledLines slot salt (x .room) (x .answer)) still
-        ∙ append-nil (headLine slot salt (reportOf 0 (opened .table .flows) (opened .list .flags)))
-        ∙ ap (headLine slot salt) (empty-report (opened .table .flows) (opened .list .flags) (λ c h. flows-zero c (omega (arith, flows-long))))
+        ∙ append-nil (headLine slot salt (reportIn 0 opened))
+        ∙ ap (headLine slot salt) (empty-report (opened .table .xors) (opened .table .flows) (opened .packets) (opened .list .flags)
+        xors-left (λ c h. flows-zero c (omega (arith, flows-long))) packets-left)
 
     pub empty-prints : printed (bytesOf 4 slot ++ image) ≡ headLine slot salt emptyReport
     unfolding imageLines readLines

@@ -55,17 +55,18 @@ written-more {rs} {s} {at = at} {i = i} w {t} {r} p h = record {
 }
 
 -- ---- the first line
-pub report-le : (slot salt n : ℕ) (flows flags : List ℕ) {r : Report} → slot < 2 ^ 32 → salt < 2 ^ 32 → n ≤ 3072 → length flows ≤ 1536
-    → r ≡ reportOf n flows flags → length (headLine slot salt r) ≤ 61
+pub report-le : (slot salt n : ℕ) (xors flows packets flags : List ℕ) {r : Report} → slot < 2 ^ 32 → salt < 2 ^ 32 → n ≤ 3072 → length flows ≤ 1536
+    → r ≡ reportOf n xors flows packets flags → length (headLine slot salt r) ≤ 61
 unfolding reportOf countedIn openIn
-report-le slot salt n flows flags a b h l e =
+report-le slot salt n xors flows packets flags a b h l e =
     rw e
-    (head-le slot salt (reportOf n flows flags) a b (omega arith)
+    (head-le slot salt (reportOf n xors flows packets flags) a b (omega arith)
     (omega (arith, number-max n (λ i. flagSet 0 (getD flags i 0))))
     (omega (arith, number-max (length flows) (λ c. ltb 0 (getD flows c 0)))))
 
 -- the first line, and the lines of the listed flows
-pub listed-put : (slot salt n : ℕ) (flows : List ℕ) (rs : Records) {s t u : List ℕ} {to r : ℕ} {x : Report} → x ≡ reportOf n flows (rs .flags)
-    → Put s t 0 to (headLine slot salt x) → Put t u to r (joinUpto n (recordLine rs)) → Put s u 0 r (listedLines slot salt n flows rs)
+pub listed-put : (slot salt n : ℕ) (xors flows packets : List ℕ) (rs : Records) {s t u : List ℕ} {to r : ℕ} {x : Report}
+    → x ≡ reportOf n xors flows packets (rs .flags)
+    → Put s t 0 to (headLine slot salt x) → Put t u to r (joinUpto n (recordLine rs)) → Put s u 0 r (listedLines slot salt n xors flows packets rs)
 unfolding listedLines
-listed-put slot salt n flows rs e p q = put-then (put-same (ap (headLine slot salt) e) p) q
+listed-put slot salt n xors flows packets rs e p q = put-then (put-same (ap (headLine slot salt) e) p) q

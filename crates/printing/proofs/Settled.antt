@@ -7,10 +7,9 @@ use native.Mathlib.Omega.{arith}
 use types.Run.{OneOf}
 use denote.Enum.Declared.{tagOf}
 use lib.ListN.{length}
-use Rattle.laws.proofs.Bools.{split}
 use Rattle.layout.specs.declared.Layout.{Layout}
 use Rattle.layout.specs.declared.Sizes.{Sizes}
-use Rattle.layout.specs.Sizes.{Lays, inRange, ipv4Layout, tableCells}
+use Rattle.layout.specs.Sizes.{Lays, ipv4Layout, tableCells}
 use Rattle.layout.proofs.Ranges.{table-high, lays-ipv4}
 use Rattle.list.specs.Records.{Records}
 use Rattle.marks.specs.Marks.{Words}
@@ -25,21 +24,17 @@ use Rattle.counting.specs.Count.{countsOf}
 use Rattle.settling.specs.Settle as settling
 use Rattle.settling.specs.Settle.{stopAfter, afterCounts, thenCounts}
 use Rattle.room.specs.declared.Session.{Session}
-use Rattle.room.specs.Memory.{Memory, roomFits}
-use Rattle.room.specs.Test.{tested}
-use Rattle.room.proofs.Laws.{tested-sizes, tested-room, tested-rest}
-use Rattle.test8.specs.Test8.{isSession}
+use Rattle.room.specs.Memory.{Memory}
 use Rattle.session.specs.declared.Settled.{Settled}
 use Rattle.session.specs.declared.Settled.the-variants as settled
 use Rattle.session.specs.declared.Reported.the-variants as reported
-use Rattle.session.specs.Calls.{Settling, settlingTo, settleAnswer, settleLeaves, settleOf, settleNumber, reportOn, reportNumber, indexOf}
+use Rattle.session.specs.Calls.{Settling, settlingTo, settleAnswer, settleLeaves, settleOf, settleNumber, reportOn, indexOf}
 use Rattle.summary.specs.declared.Report.{Report}
-use Rattle.summary.specs.Report.{reportOf}
 use Rattle.session.proofs.Answers.{Passes, rooms, listed-high, passes-steady}
-use Rattle.session.proofs.Laws.{settle-passes}
+use Rattle.session.proofs.Laws.{settle-passes, else-passes, told-passes}
 use Rattle.session.proofs.Settled as declared
 use Rattle.lines.specs.Text.{refusedLine}
-use Rattle.printing.specs.Print.{listedLines, settledLines, sessionLines}
+use Rattle.printing.specs.Print.{roomLines, settledLines, sessionLines}
 
 -- ---- peeling bounds the list, and counting adds nothing to it
 after-listed : (n : ℕ) (a : counting.Stop) → listedAt (stopAfter n a) ≡ n
@@ -69,30 +64,11 @@ module _ (l : Layout) (s : Session) (m : Memory) where
   not-done : {A : Type 0} (a : Settled) {n : ℕ} → 0 < settleNumber a → settleOf l s m ≡ settlingTo a m → settleOf l s m .answer ≡ settled.Done n → A
   not-done a h r e = absurd (omega (arith, ap settleNumber (ap (λ (x : Settling). x .answer) (sym r) ∙ e)))
 
-  -- what is neither of the tests' two refusals is answered of a session that passes them
-  else-passes : {A : Type 0} (x y w : A) {r : A} → tested l s m x y w ≡ r → (x ≡ r → ⊥) → (y ≡ r → ⊥) → Passes l s m
-  else-passes x y w e f g = elim (split (inRange (s .sizes))) [
-    | inr p ↦ absurd (f (sym (tested-sizes l s m _ _ _ p) ∙ e))
-    | inl p ↦ elim (split (roomFits l (s .sizes) m)) [
-      | inr q ↦ absurd (g (sym (tested-room l s m _ _ _ p q) ∙ e))
-      | inl q ↦ elim (split (isSession l (s .sizes) (s .salt) (s .listed) (m .table) (m .list))) [
-        | inr o ↦ absurd (f (sym (tested-rest l s m _ _ _ p q o) ∙ e))
-        | inl o ↦ record { sizes = p; room = q; rest = o }
-      ]
-    ]
-  ]
-
   done-passes : {n : ℕ} → settleOf l s m .answer ≡ settled.Done n → Passes l s m
   unfolding settleOf
   done-passes e =
-      else-passes (settlingTo settled.NotSession m) (settlingTo settled.BadRoom m) (settleLeaves m end) refl
+      else-passes l s m (settlingTo settled.NotSession m) (settlingTo settled.BadRoom m) (settleLeaves m end) refl
       (λ q. not-done settled.NotSession (omega arith) (sym q) e) (λ q. not-done settled.BadRoom (omega arith) (sym q) e)
-
-  told-passes : {t : Report} → reportOn l s m ≡ reported.Told t → Passes l s m
-  unfolding reportOn
-  told-passes e =
-      else-passes reported.NotSession reported.BadRoom (reported.Told (reportOf (s .listed) (m .table .flows) (m .list .flags))) e
-      (λ q. absurd (omega (arith, ap reportNumber q))) (λ q. absurd (omega (arith, ap reportNumber q)))
 
   done-high : {n : ℕ} → Lays l → Words (m .table .marks) → settleOf l s m .answer ≡ settled.Done n → n ≤ 2 * tableCells l (s .sizes)
   done-high {n} lays w e =
@@ -149,7 +125,7 @@ module _ (s : Session) (m : Memory) {e : Settled} {m′ : Memory} (q : settlingT
   unfolding sessionLines
   lines-are = ap (λ (x : Settling). settledLines (s .slot) (s .salt) (x .room) (x .answer)) q
 
-  pub session-done : {n : ℕ} → e ≡ settled.Done n → listedLines (s .slot) (s .salt) n (m′ .table .flows) (m′ .list) ≡ sessionLines s m
+  pub session-done : {n : ℕ} → e ≡ settled.Done n → roomLines (s .slot) (s .salt) n m′ ≡ sessionLines s m
   unfolding settledLines
   session-done d = rw d at lines-are
 

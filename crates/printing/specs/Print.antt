@@ -32,12 +32,17 @@ unfoldable pub recordLine : Records → ℕ → List ℕ
 recordLine rs i = flowLine (keyFrom (keyAt ipv4Layout (rs .keys) i)) (isKnown rs i) (getD (rs .counts) i 0)
 
 -- 01 'Printing program': "a line of slot, salt, listed, counted, open and state; then per listed flow, in list order: .."; n flows are listed
-unfoldable pub listedLines : ℕ → ℕ → ℕ → List ℕ → Records → List ℕ
-listedLines slot salt n flows rs = headLine slot salt (reportOf n flows (rs .flags)) ++ joinUpto n (recordLine rs)
+unfoldable pub listedLines : ℕ → ℕ → ℕ → List ℕ → List ℕ → List ℕ → Records → List ℕ
+listedLines slot salt n xors flows packets rs =
+    headLine slot salt (reportOf n xors flows packets (rs .flags)) ++ joinUpto n (recordLine rs)
+
+-- of lent room
+abbrev pub roomLines : ℕ → ℕ → ℕ → Memory → List ℕ
+roomLines slot salt n m = listedLines slot salt n (m .table .xors) (m .table .flows) (m .packets) (m .list)
 
 -- 01 'Printing program': "A refusal, 14 too, prints only `refused` and the number"; by what settling answers and leaves
 unfoldable pub settledLines : ℕ → ℕ → Memory → Settled → List ℕ
-settledLines slot salt m (settled.Done n) = listedLines slot salt n (m .table .flows) (m .list)
+settledLines slot salt m (settled.Done n) = roomLines slot salt n m
 settledLines slot salt m (settled.Damaged n c) = refusedLine (settleNumber (settled.Damaged n c))
 settledLines slot salt m settled.NotSession = refusedLine (settleNumber settled.NotSession)
 settledLines slot salt m settled.BadRoom = refusedLine (settleNumber settled.BadRoom)

@@ -71,7 +71,9 @@ pub fn put_listed(
     slot: u32,
     salt: u32,
     n: usize,
+    xors: &[u8],
     flows: &[u16],
+    packets: &[u32],
     keys: &[u8],
     counts: &[u32],
     flags: &[u8],
@@ -79,9 +81,10 @@ pub fn put_listed(
     requires { ⌜ (mostWritten ≤ length (now out)) × (n ≤ 3072) × (length (now flows) ≤ 1536) × (n * 13 ≤ length (now keys))
         × (n ≤ length (now counts)) × (n ≤ length (now flags)) ⌝ }
     ensures { λ r. ⌜ Put (now (out .entry)) (now (out .exit)) 0 r
-        (listedLines slot salt n (now (flows .entry)) (records (now (keys .entry)) (now (counts .entry)) (now (flags .entry)))) ⌝ }
+        (listedLines slot salt n (now (xors .entry)) (now (flows .entry)) (now (packets .entry))
+        (records (now (keys .entry)) (now (counts .entry)) (now (flags .entry)))) ⌝ }
 {
-    let report = summary::report_of(n, flows, flags);
+    let report = summary::report_of(n, xors, flows, packets, flags);
     let to = lines::put_head(out, 0, slot, salt, report);
     put_records(out, to, n, keys, counts, flags)
 }
@@ -153,7 +156,18 @@ fn print_session(
     let Settled::Done { listed } = e else {
         return lines::put_refused(out, 0, settle_number(e));
     };
-    put_listed(out, s.slot, s.salt, listed, flows, keys, counts, flags)
+    put_listed(
+        out,
+        s.slot,
+        s.salt,
+        listed,
+        xors,
+        flows,
+        packets,
+        keys,
+        counts,
+        flags,
+    )
 }
 
 // Opens an image in room of its size, settles it and writes its lines.

@@ -32,9 +32,8 @@ use Rattle.handing.specs.declared.Handed.{Handed}
 use Rattle.handing.specs.Hand as handing
 use Rattle.settling.specs.Settle as settling
 use Rattle.summary.specs.declared.Report.{Report}
-use Rattle.summary.specs.Report.{reportOf}
 use Rattle.session.specs.Calls.{indexOf, testOf, handingTo, handAnswer, handLeaves, handOver}
-use Rattle.session.specs.Calls.{settlingTo, settleAnswer, settleLeaves, settleOf, reportOn}
+use Rattle.session.specs.Calls.{settlingTo, settleAnswer, settleLeaves, settleOf, reportIn, reportOn}
 use Rattle.session.specs.declared.Tested.{Tested}
 use Rattle.session.specs.declared.Tested.the-variants as test
 use Rattle.session.specs.declared.HandOver.{HandOver}
@@ -184,7 +183,7 @@ module _ (l : Layout) (s : Session) (m : Memory) {r : Tested} (e : r ≡ testOf 
       ∙ (rw q at settle-is)
 
   -- the report
-  report-is : choose reported.NotSession reported.BadRoom (reported.Told (reportOf (s .listed) (m .table .flows) (m .list .flags))) r ≡ reportOn l s m
+  report-is : choose reported.NotSession reported.BadRoom (reported.Told (reportIn (s .listed) m)) r ≡ reportOn l s m
   unfolding reportOn
   report-is = way l s m e _ _ _
 
@@ -194,5 +193,5 @@ module _ (l : Layout) (s : Session) (m : Memory) {r : Tested} (e : r ≡ testOf 
   pub report-room : r ≡ test.BadRoom → reported.BadRoom ≡ reportOn l s m
   report-room q = (rw q at report-is)
 
-  pub report-passed : {x : Report} → r ≡ test.Passed → x ≡ reportOf (s .listed) (m .table .flows) (m .list .flags) → reported.Told x ≡ reportOn l s m
+  pub report-passed : {x : Report} → r ≡ test.Passed → x ≡ reportIn (s .listed) m → reported.Told x ≡ reportOn l s m
   report-passed q h = ap reported.Told h ∙ (rw q at report-is)

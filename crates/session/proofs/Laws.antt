@@ -4,15 +4,17 @@ use mathlib.Core.List.{List}
 use mathlib.Core.Logic.{_⊎_, inl, inr}
 use Prim.Native.Nat.{ℕ, _<_}
 use native.Mathlib.Omega.{arith}
+use Rattle.laws.proofs.Bools.{split}
 use Rattle.layout.specs.declared.Layout.{Layout}
-use Rattle.layout.specs.Sizes.{Lays}
+use Rattle.layout.specs.Sizes.{Lays, inRange}
 use Rattle.layout.proofs.Ranges.{range-test}
 use Rattle.reading.proofs.Accepts.{accepted}
 use Rattle.peeling.specs.declared.Stop.{Stop}
 use Rattle.peeling.specs.declared.Stop.the-variants as stop
 use Rattle.room.specs.declared.Session.{Session}
-use Rattle.room.specs.Memory.{Memory, memory}
-use Rattle.room.proofs.Laws.{rooms-asked, tested-passed}
+use Rattle.room.specs.Memory.{Memory, memory, roomFits}
+use Rattle.room.specs.Test.{tested}
+use Rattle.room.proofs.Laws.{rooms-asked, tested-sizes, tested-room, tested-rest, tested-passed}
 use Rattle.test8.specs.Test8.{isSession}
 use Rattle.opening.specs.declared.Opened.the-variants.{Open}
 use Rattle.opening.specs.Open.{openedMemory, openOf}
@@ -22,14 +24,15 @@ use Rattle.handing.specs.declared.Handed.the-variants as hand
 use Rattle.handing.specs.Hand as handing
 use Rattle.handing.proofs.Laws.{hand-kept}
 use Rattle.settling.specs.Settle as settling
-use Rattle.summary.specs.Report.{reportOf}
+use Rattle.summary.specs.declared.Report.{Report}
 use Rattle.session.specs.declared.Tested.{Tested}
 use Rattle.session.specs.declared.Tested.the-variants as test
 use Rattle.session.specs.declared.HandOver.the-variants as over
 use Rattle.session.specs.declared.Settled.the-variants as settled
+use Rattle.session.specs.declared.Reported.{Reported}
 use Rattle.session.specs.declared.Reported.the-variants as reported
 use Rattle.session.specs.Calls.{indexOf, testOf, Handing, handingTo, handAnswer, handLeaves, handOver, handOverNumber}
-use Rattle.session.specs.Calls.{Settling, settlingTo, settleAnswer, settleLeaves, settleOf, settleNumber, reportOn}
+use Rattle.session.specs.Calls.{Settling, settlingTo, settleAnswer, settleLeaves, settleOf, settleNumber, reportIn, reportOn, reportNumber}
 use Rattle.session.proofs.Answers.{Passes, choose, hand-is, settle-is}
 
 -- ---- a session that passes the tests
@@ -44,9 +47,39 @@ module _ (l : Layout) (s : Session) (m : Memory) (p : Passes l s m) where
   unfolding settleOf
   settle-passes = tested-passed l s m _ _ _ (p .sizes) (p .room) (p .rest)
 
-  pub report-passes : reportOn l s m ≡ reported.Told (reportOf (s .listed) (m .table .flows) (m .list .flags))
+  pub report-passes : reportOn l s m ≡ reported.Told (reportIn (s .listed) m)
   unfolding reportOn
   report-passes = tested-passed l s m _ _ _ (p .sizes) (p .room) (p .rest)
+
+-- ---- which sessions pass them
+module _ (l : Layout) (s : Session) (m : Memory) where
+  -- what is neither of the tests' two refusals is answered of a session that passes
+  pub else-passes : {A : Type 0} (x y w : A) {r : A} → tested l s m x y w ≡ r → (x ≡ r → ⊥) → (y ≡ r → ⊥) → Passes l s m
+  else-passes x y w e f g = elim (split (inRange (s .sizes))) [
+    | inr p ↦ absurd (f (sym (tested-sizes l s m _ _ _ p) ∙ e))
+    | inl p ↦ elim (split (roomFits l (s .sizes) m)) [
+      | inr q ↦ absurd (g (sym (tested-room l s m _ _ _ p q) ∙ e))
+      | inl q ↦ elim (split (isSession l (s .sizes) (s .salt) (s .listed) (m .table) (m .list))) [
+        | inr o ↦ absurd (f (sym (tested-rest l s m _ _ _ p q o) ∙ e))
+        | inl o ↦ record { sizes = p; room = q; rest = o }
+      ]
+    ]
+  ]
+
+  pub told-passes : {r : Report} → reportOn l s m ≡ reported.Told r → Passes l s m
+  unfolding reportOn
+  told-passes e =
+      else-passes reported.NotSession reported.BadRoom (reported.Told (reportIn (s .listed) m)) e
+      (λ q. absurd (omega (arith, ap reportNumber q))) (λ q. absurd (omega (arith, ap reportNumber q)))
+
+  -- what is told is the report of what stands
+  pub told-is : {r : Report} → reportOn l s m ≡ reported.Told r → reportIn (s .listed) m ≡ r
+  told-is {r} e = ap (said r) (sym (report-passes l s m (told-passes e)) ∙ e)
+    where
+      said : Report → Reported → Report
+      said d (reported.Told x) = x
+      said d reported.NotSession = d
+      said d reported.BadRoom = d
 
 -- a session that was just opened passes them
 pub open-passes : (l : Layout) (image : List ℕ) (slot : ℕ) (m : Memory) (s : Session) → Lays l → openOf l image slot m .answer ≡ Open s

@@ -14,6 +14,7 @@ use Rattle.settling.specs.Settle as settling
 use Rattle.handing.specs.declared.Handed.{Handed}
 use Rattle.handing.specs.declared.Handed.the-variants as hand
 use Rattle.handing.specs.Hand as handing
+use Rattle.summary.specs.declared.Report.{Report}
 use Rattle.summary.specs.Report.{reportOf}
 use Rattle.session.specs.declared.Tested.{Tested}
 use Rattle.session.specs.declared.Tested.the-variants as test
@@ -103,10 +104,13 @@ abbrev pub settleNumber : Settled → ℕ
 settleNumber a = settleReturns a .number
 
 -- ---- the report
--- 01 'A session', Report: "worked out anew from list and cells"
+-- 01 'A session', Report: "worked out anew from list and cells"; n flows are listed
+abbrev pub reportIn : ℕ → Memory → Report
+reportIn n m = reportOf n (m .table .xors) (m .table .flows) (m .packets) (m .list .flags)
+
 unfoldable pub reportOn : Layout → Session → Memory → Reported
 reportOn l s m =
-    tested l s m reported.NotSession reported.BadRoom (reported.Told (reportOf (s .listed) (m .table .flows) (m .list .flags)))
+    tested l s m reported.NotSession reported.BadRoom (reported.Told (reportIn (s .listed) m))
 
 -- 01's number and values for each answer; the report's own numbers stand in it
 abbrev pub reportReturns : Reported → Returned

@@ -436,7 +436,7 @@ pub fn report_in(
         Tested::BadRoom => return Reported::BadRoom,
         Tested::Passed => (),
     }
-    Reported::Told(summary::report_of(s.listed, flows, flags))
+    Reported::Told(summary::report_of(s.listed, xors, flows, packets, flags))
 }
 
 // Reports.

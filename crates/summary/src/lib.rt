@@ -1,14 +1,16 @@
-// The report of a session: what is listed, counted and open, worked out anew from list and cells, and the state that they make.
+// The report of a session: what is listed, counted and open, worked out anew from list and cells, and the state that they and what is left make.
 // It rests on test8, which counts flags and open cells.
 ghost use mathlib.Core.Path.{_≡_};
 ghost use Prim.Native.Nat.{_≤_};
 ghost use lib.ListN.{length};
-ghost use Rattle.summary.specs.Report.{stateOf, reportOf};
+ghost use Rattle.laws.specs.Zeros.{allZero};
+ghost use Rattle.summary.specs.Report.{nothingLeft, stateOf, reportOf};
 
-// Stuck where a cell is open; else short where an unknown count remains; else whole.
+// Stuck where a cell is open; else short where an unknown count remains; else stray where something is left in a cell; else whole.
 pub enum State {
     Stuck,
     Short,
+    Stray,
     Whole,
 }
 
@@ -19,9 +21,44 @@ pub struct Report {
     pub state: State,
 }
 
-// The state that open cells and unknown counts make.
-fn state_of(opens: usize, unknown: usize) -> State
-    ensures { λ r. ⌜ r ≡ stateOf opens unknown ⌝ }
+// Whether all are 0. They are ORed together: a way out at the first other one would cost a branch for each.
+fn no_key(xors: &[u8]) -> bool
+    ensures { λ r. ⌜ r ≡ allZero (now (xors .entry)) ⌝ }
+{
+    let mut any = 0;
+    let mut i = 0;
+    while i < xors.len() {
+        any = any | xors[i];
+        i += 1;
+    }
+    any == 0
+}
+
+fn no_packet(packets: &[u32]) -> bool
+    ensures { λ r. ⌜ r ≡ allZero (now (packets .entry)) ⌝ }
+{
+    let mut any = 0;
+    let mut i = 0;
+    while i < packets.len() {
+        any = any | packets[i];
+        i += 1;
+    }
+    any == 0
+}
+
+// Whether nothing is left in FlowXOR and PacketCount of any cell.
+fn nothing_left(xors: &[u8], packets: &[u32]) -> bool
+    ensures { λ r. ⌜ r ≡ nothingLeft (now (xors .entry)) (now (packets .entry)) ⌝ }
+{
+    if !no_key(xors) {
+        return false;
+    }
+    no_packet(packets)
+}
+
+// The state that open cells, unknown counts and what is left make.
+fn state_of(opens: usize, unknown: usize, nothing: bool) -> State
+    ensures { λ r. ⌜ r ≡ stateOf opens unknown nothing ⌝ }
 {
     if opens > 0 {
         return State::Stuck;
@@ -29,20 +66,21 @@ fn state_of(opens: usize, unknown: usize) -> State
     if unknown > 0 {
         return State::Short;
     }
-    State::Whole
+    if nothing { State::Whole } else { State::Stray }
 }
 
-// The report where n flows are listed: of their flags and of every cell's FlowCount.
-pub fn report_of(n: usize, flows: &[u16], flags: &[u8]) -> Report
+// The report where n flows are listed: of their flags and of every cell's FlowXOR, FlowCount and PacketCount.
+pub fn report_of(n: usize, xors: &[u8], flows: &[u16], packets: &[u32], flags: &[u8]) -> Report
     requires { ⌜ n ≤ length (now flags) ⌝ }
-    ensures { λ r. ⌜ r ≡ reportOf n (now (flows .entry)) (now (flags .entry)) ⌝ }
+    ensures { λ r. ⌜ r ≡ reportOf n (now (xors .entry)) (now (flows .entry)) (now (packets .entry)) (now (flags .entry)) ⌝ }
 {
     let counted = test8::flagged_in(n, test8::KNOWN, flags);
     let opens = test8::open_in(flows);
+    let nothing = nothing_left(xors, packets);
     Report {
         listed: n,
         counted,
         opens,
-        state: state_of(opens, n - counted),
+        state: state_of(opens, n - counted, nothing),
     }
 }

@@ -10,7 +10,7 @@ use Rattle.laws.proofs.Bools.{split, clash, or-e, or-fr}
 use Rattle.laws.proofs.Upto.{any-none}
 use Rattle.theory.specs.Encode.{Key, sameKey, among, sumOver, count, Table, Placement}
 use Rattle.theory.specs.Session.{Record, Session, opened, keysOf, keysWhere, unknownsOf, listed, pure, ready, hasEmptyCell, openCells, takeOut, next, settled, peelDamaged, peelPure, countStep, settle}
-use Rattle.theory.specs.Report.{short, report}
+use Rattle.theory.specs.Report.{short, nothingLeft, report}
 use Rattle.theory.proofs.Flow.{same-eq, among-append, among-none}
 use Rattle.theory.proofs.Sums.{sum-none}
 use Rattle.theory.proofs.Records.{keys-take, keys-told, where-listed}
@@ -121,5 +121,8 @@ module _ (n : ℕ) (has : Placement) where
   unfolding report
   alone-never-short t z e = elim (split (ltb 0 (openCells n (settle n has (opened t) .state .cells)))) [
     | inl a ↦ (let h = rw a at e in let q : _≡_ {A = ℕ} 0 1 = cc in omega arith)
-    | inr a ↦ (let h = rw (a, alone-known t z) at e in let q : _≡_ {A = ℕ} 0 1 = cc in omega arith)
+    | inr a ↦ elim (split (nothingLeft n (settle n has (opened t) .state .cells))) [
+      | inl b ↦ (let h = rw (a, alone-known t z, b) at e in let q : _≡_ {A = ℕ} 0 1 = cc in omega arith)
+      | inr b ↦ (let h = rw (a, alone-known t z, b) at e in let q : _≡_ {A = ℕ} 0 1 = cc in omega arith)
+    ]
   ]

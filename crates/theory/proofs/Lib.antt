@@ -22,6 +22,7 @@ pub mod Calls
 pub mod Truthful
 pub mod Demands
 pub mod Whole
+pub mod Stray
 pub mod Alone
 -- marks and per-cell numbers
 pub mod Positions

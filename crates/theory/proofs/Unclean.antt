@@ -2,21 +2,22 @@
 use mathlib.Core.Path.{_≡_, refl}
 use mathlib.Core.List.{[], _∷_}
 use Rattle.laws.specs.Xor.{xorBytes}
-use Rattle.laws.specs.Upto.{anyUpto, lowest, numberUpto}
+use Rattle.laws.specs.Upto.{anyUpto, allUpto, lowest, numberUpto}
+use Rattle.laws.specs.Zeros.{allZero}
 use Rattle.theory.specs.Encode.{sameKey, among, sumOver}
 use Rattle.theory.specs.Session.{keysOf, keysWhere, pure, ready, first, hasEmptyCell, openCells, takeOut, withCount, setCount, settled, afterStep, repeat, peelDamaged, peelAt, peel, countDamaged, countAt, countStep, thenCounts, settle}
 use Rattle.theory.specs.HandOver.{hand, settling, handAnswer, handOver, call, calls}
-use Rattle.theory.specs.Report.{whole, report}
+use Rattle.theory.specs.Report.{stray, nothingLeft, report}
 use Rattle.theory.specs.Unclean.{placed, table, End, ends}
 use Prim.Native.Nat.{ℕ}
 
-abbrev wholeWith : (x y : ℕ) → End
-wholeWith x y = record { stop = settled; keys = (x ∷ []) ∷ (y ∷ []) ∷ []; state = whole }
+abbrev strayWith : (x y : ℕ) → End
+strayWith x y = record { stop = settled; keys = (x ∷ []) ∷ (y ∷ []) ∷ []; state = stray }
 
--- settle, hand 2, settle lists 1 and 2; handing 2 first lists 2 and 6: both report whole
-pub order-matters : (ends (settling ∷ hand (2 ∷ []) ∷ []) ≡ wholeWith 1 2) × (ends (hand (2 ∷ []) ∷ []) ≡ wholeWith 2 6)
-unfolding xorBytes anyUpto lowest numberUpto sameKey among sumOver
+-- settle, hand 2, settle lists 1 and 2; handing 2 first lists 2 and 6: both report stray, and whole without 02 b
+pub order-matters : (ends (settling ∷ hand (2 ∷ []) ∷ []) ≡ strayWith 1 2) × (ends (hand (2 ∷ []) ∷ []) ≡ strayWith 2 6)
+unfolding xorBytes anyUpto allUpto allZero lowest numberUpto sameKey among sumOver
     keysOf keysWhere pure ready first hasEmptyCell openCells takeOut withCount setCount
-    afterStep repeat peelDamaged peelAt peel countDamaged countAt countStep thenCounts settle handAnswer handOver call calls report
+    afterStep repeat peelDamaged peelAt peel countDamaged countAt countStep thenCounts settle handAnswer handOver call calls nothingLeft report
     placed table ends
 order-matters = (refl, refl)

@@ -10,11 +10,11 @@ use lib.ListN.{length}
 use lib.Dec.{ltb}
 use Rattle.laws.proofs.Bools.{split, iff}
 use Rattle.laws.proofs.Upto.{any-some}
-use Rattle.theory.specs.Encode.{Key, among}
-use Rattle.theory.specs.Session.{Session, unknownsOf, listed, unknown, counted, countOf, openCells}
+use Rattle.theory.specs.Encode.{Key, among, Table}
+use Rattle.theory.specs.Session.{Record, Session, unknownsOf, listed, unknown, counted, countOf, openCells}
 use Rattle.theory.specs.HandOver.{Switch, Call, calls}
 use Rattle.theory.specs.Invariant.{Counted, received, Holds}
-use Rattle.theory.specs.Report.{whole, report}
+use Rattle.theory.specs.Report.{whole, nothingLeft, report}
 use Rattle.theory.specs.Demands.{HandedCounted}
 use Rattle.theory.proofs.Records.{counts-said}
 use Rattle.theory.proofs.Single.{zero-listed}
@@ -22,31 +22,42 @@ use Rattle.theory.proofs.Demands.{stands-received, stands-calls, stands
 use borrow.Author.Tests.{ltb-false}
 use Rattle.laws.proofs.Lowest.{number-some}
 
+-- where no cell is open, every FlowCount is 0
+pub none-open : (n : ℕ) (t : Table) → openCells n t ≡ 0 → (c : ℕ) → c < n → t c .flowCount ≡ 0
+unfolding openCells
+none-open n t e c l = elim (split (ltb 0 (t c .flowCount))) [
+  | inl a ↦ absurd (omega (arith, e, number-some n (λ j. ltb 0 (t j .flowCount)) c l a))
+  | inr a ↦ omega (arith, ltb-false 0 (t c .flowCount) a)
+]
+
+-- where no count is unknown, none of a key is
+pub none-unknown : (list : List Record) → length (unknownsOf list) ≡ 0 → (k : Key) → among k (unknownsOf list) ≡ false
+none-unknown list e k = go (unknownsOf list) e
+  where
+    go : (l : List Key) → length l ≡ 0 → among k l ≡ false
+    go [] e = unfold among in refl
+    go (x ∷ l) e = absurd (omega arith)
+
 module _ (n : ℕ) (s : Session) (z : report n s .state ≡ whole) where
-  -- whole: no cell is open, and no count unknown
-  whole-says : (openCells n (s .cells) ≡ 0) × (length (unknownsOf (s .list)) ≡ 0)
+  -- whole: no cell is open, no count is unknown, and nothing is left
+  whole-says : (openCells n (s .cells) ≡ 0) × (length (unknownsOf (s .list)) ≡ 0) × (nothingLeft n (s .cells) ≡ true)
   unfolding report
   whole-says = elim (split (ltb 0 (openCells n (s .cells)))) [
     | inl a ↦ absurd (let h = rw a at z in let q : _≡_ {A = ℕ} 0 1 = cc in omega arith)
     | inr a ↦ elim (split (ltb 0 (length (unknownsOf (s .list))))) [
       | inl b ↦ absurd (let h = rw (a, b) at z in let q : _≡_ {A = ℕ} 0 1 = cc in omega arith)
-      | inr b ↦ (omega (arith, ltb-false 0 (openCells n (s .cells)) a), omega (arith, ltb-false 0 (length (unknownsOf (s .list))) b))
+      | inr b ↦ elim (split (nothingLeft n (s .cells))) [
+        | inr d ↦ absurd (let h = rw (a, b, d) at z in let q : _≡_ {A = ℕ} 0 1 = cc in omega arith)
+        | inl d ↦ (omega (arith, ltb-false 0 (openCells n (s .cells)) a), omega (arith, ltb-false 0 (length (unknownsOf (s .list))) b), d)
+      ]
     ]
   ]
 
   whole-zero : (c : ℕ) → c < n → s .cells c .flowCount ≡ 0
-  unfolding openCells
-  whole-zero c l = elim (split (ltb 0 (s .cells c .flowCount))) [
-    | inl a ↦ absurd (omega (arith, whole-says .0, number-some n (λ j. ltb 0 (s .cells j .flowCount)) c l a))
-    | inr a ↦ omega (arith, ltb-false 0 (s .cells c .flowCount) a)
-  ]
+  whole-zero = none-open n (s .cells) (whole-says .0)
 
   whole-known : (k : Key) → unknown s k ≡ false
-  whole-known k = go (unknownsOf (s .list)) (whole-says .1)
-    where
-      go : (l : List Key) → length l ≡ 0 → among k l ≡ false
-      go [] e = unfold among in refl
-      go (x ∷ l) e = absurd (omega arith)
+  whole-known = none-unknown (s .list) (whole-says .1)
 
 module _ (w : Switch) (e : Counted w) (s : Session) (i : Holds w e s) (z : report (w .size) s .state ≡ whole) where
   whole-listed : (k : Key) → among k (e .flows) ≡ true → listed s k ≡ true

@@ -12,8 +12,7 @@ use Rattle.meaning.proofs.Meaning.{packets-mean}
 use Rattle.summary.specs.declared.Report.{Report}
 use Rattle.summary.specs.declared.State.{State}
 use Rattle.summary.specs.declared.State.the-variants as state
-use Rattle.summary.specs.Report.{reportOf}
-use Rattle.session.specs.Calls.{settleOf}
+use Rattle.session.specs.Calls.{settleOf, reportIn}
 use Rattle.lines.specs.Text.{headLine}
 use Rattle.printing.specs.Print.{listedLines, printed}
 use Rattle.theory.specs.Encode.{NeverMistaken}
@@ -33,6 +32,7 @@ use Rattle.truth.proofs.Printed.{shows, settled-passing, same-sizes}
 state-back : (s : State) → stateFrom (stateAs s) ≡ s
 state-back state.Stuck = refl
 state-back state.Short = refl
+state-back state.Stray = refl
 state-back state.Whole = refl
 
 report-back : (r : Report) → reportFrom (reportAs r) ≡ r
@@ -62,7 +62,7 @@ module _ (z : Sizes) (r : Ranged z) (salt slot : ℕ) (salt-fits : salt < 2 ^ 32
         let sealed = seals ipv4Layout lays-ipv4 z r salt slot salt-fits slot-fits m (encoder.takenIn z salt packets) (packets-mean z salt packets)
         (imageRoom z) (length-replicate (blocks z * 512) 0) in
         let passing = settled-passing z salt slot salt-fits slot-fits packets (imageRoom z) first sealed clean in
-        let told = reportOf (u .numbers .listed) (u .room .table .flows) (u .room .list .flags) in
+        let told = reportIn (u .numbers .listed) (u .room) in
         let said : told ≡ reportFrom (report (tableCells ipv4Layout z) (viewed ipv4Layout u)) = sym (report-back told)
         ∙ ap reportFrom (report-counts ipv4Layout u passing .1
         ∙ ap (λ y. report (tableCells ipv4Layout y) (viewed ipv4Layout u)) (same-sizes (opened .numbers) (settleOf ipv4Layout (opened .numbers) (opened .room) .answer))) in

@@ -28,12 +28,13 @@ use Rattle.opening.proofs.Answers.{opened-rooms}
 use Rattle.room.specs.declared.Session.{Session}
 use Rattle.room.specs.Memory.{Memory}
 use Rattle.summary.specs.declared.Report.{Report}
-use Rattle.summary.specs.Report.{stateOf, countedIn, reportOf}
+use Rattle.summary.specs.declared.State.the-variants.{Stray}
+use Rattle.summary.specs.Report.{stateOf, nothingLeft, countedIn, reportOf}
 use Rattle.session.specs.declared.Settled.{Settled}
 use Rattle.session.specs.declared.Settled.the-variants as settled
-use Rattle.session.specs.Calls.{settleOf, settleNumber}
+use Rattle.session.specs.Calls.{settleOf, settleNumber, reportIn}
 use Rattle.lines.specs.Text.{headLine}
-use Rattle.printing.specs.Print.{listedLines, settledLines, sessionLines, readLines, imageLines, printed}
+use Rattle.printing.specs.Print.{listedLines, roomLines, settledLines, sessionLines, readLines, imageLines, printed}
 use Rattle.printing.proofs.Input.{slot-image}
 use Rattle.meaning.specs.Meaning as encoder
 use Rattle.meaning.proofs.Ipv4.{start-clears}
@@ -48,8 +49,9 @@ use Rattle.theory.specs.Demands.{keep}
 use Rattle.theory.proofs.Alone.{alone-known}
 use Rattle.theory.proofs.Flow.{same-eq, among-none}
 use Rattle.theory.proofs.Records.{keys-length}
+use Rattle.theory.proofs.Stray.{never-stray}
 use Rattle.demands.specs.Calls.{Live, afterSettle, callOn, callsOn, accepted, KeysFit, viewed, Passing}
-use Rattle.demands.specs.Demands.{Received, Demand2At}
+use Rattle.demands.specs.Demands.{stateAs, Received, Demand2At}
 use Rattle.demands.proofs.Received.{openedLive, goes-through, received-passing, received-viewed, received-switch}
 use Rattle.demands.proofs.Steps.{settle-follows, settle-number}
 use Rattle.demands.proofs.Reported.{report-counts}
@@ -60,7 +62,7 @@ use Rattle.truth.proofs.Lines.{lines-of, counts-right, right-lines}
 
 -- answer 0 lists flows
 settled-listed : (slot salt : ℕ) (numbers : Session) (m : Memory) (a : Settled) → settleNumber a ≡ 0
-    → settledLines slot salt m a ≡ listedLines slot salt (afterSettle numbers a .listed) (m .table .flows) (m .list)
+    → settledLines slot salt m a ≡ roomLines slot salt (afterSettle numbers a .listed) m
 unfolding settledLines
 settled-listed slot salt numbers m (settled.Done n) e = refl
 settled-listed slot salt numbers m (settled.Damaged n c) e = absurd (omega arith)
@@ -100,6 +102,13 @@ keep-none P Q (x ∷ F) e k m p q = elim (split (sameKey k x)) [
       | inl u ↦ elim (split (P x)) [ inl t ↦ omega (arith, rw (u, t) at h) | inr t ↦ rw (u, t) at h ]
       | inr u ↦ rw u at h
     ]
+
+-- where nothing is unknown and the state is not stray, it is the one where nothing is left
+not-stray : (opens : ℕ) (nothing : Bool) → (stateOf opens 0 nothing ≡ Stray → ⊥) → stateOf opens 0 nothing ≡ stateOf opens 0 true
+not-stray opens nothing never = elim (split (ltb 0 opens)) [
+  | inl a ↦ rw a
+  | inr a ↦ elim (split nothing) [ inl b ↦ rw b | inr b ↦ absurd (never (rw (a, b))) ]
+]
 
 report-path : {a b : Report} → a .listed ≡ b .listed → a .counted ≡ b .counted → a .opens ≡ b .opens → a .state ≡ b .state → a ≡ b
 report-path p q r t = λ i. record { listed = p i; counted = q i; opens = r i; state = t i }
@@ -179,7 +188,7 @@ module _ (z : Sizes) (salt slot : ℕ) (salt-fits : salt < 2 ^ 32) (slot-fits : 
   unfolding openCells opensLeft encodeCell
   opens = number-same (tableCells l z) _ _ (λ c h. ap (λ cell. ltb 0 (cell .flowCount)) (demand .truthful-settled .cells-left c))
 
-  reported : reportOf n (u .room .table .flows) (u .room .list .flags) ≡ reportAlone (length flows) (opensLeft z salt F flows)
+  reported : reportIn n (u .room) ≡ reportAlone (length flows) (opensLeft z salt F flows)
   unfolding callOn reportOf theory-report.report
   reported =
       let said = report-counts l u settled-passing .1 in
@@ -188,12 +197,17 @@ module _ (z : Sizes) (salt slot : ℕ) (salt-fits : salt < 2 ^ 32) (slot-fits : 
       ap (λ r. r .counted) said ∙ known-all (s .list) all-known ∙ sym (keys-length (s .list)) in
       let open-is = ap (λ r. r .opens) said ∙ ap (λ y. openCells (tableCells l y) (s .cells)) (same-sizes (v .numbers) (settleOf l (v .numbers) (v .room) .answer)) ∙ opens in
       let none : n - countedIn n (u .room .list .flags) ≡ 0 = omega (arith, is, known) in
-      report-path is known open-is (ap₂ stateOf open-is none)
+      let left : Bool = nothingLeft (u .room .table .xors) (u .room .packets) in
+      let state : stateOf (reportIn n (u .room) .opens) (n - countedIn n (u .room .list .flags)) left ≡ stateOf (opensLeft z salt F flows) 0 left
+      = ap₂ (λ a b. stateOf a b left) open-is none in
+      report-path is known open-is (state ∙ not-stray (opensLeft z salt F flows) left
+      (λ e. never-stray (l .key) (hasCell l z salt) F (packetsOf taken) (tableCells l (u .numbers .sizes)) s (demand .truthful-settled)
+      (sym (ap (λ r. r .state) said) ∙ ap stateAs (state ∙ e))))
 
   lines-are : linesOf (s .list) ≡ flowLines (packetsOf taken) flows
   lines-are = right-lines (packetsOf taken) (s .list) all-known (counts-right (packetsOf taken) (s .list) once (demand .truthful-settled .counts-true))
 
-  session-is : sessionLines (v .numbers) (v .room) ≡ listedLines slot salt n (u .room .table .flows) (u .room .list)
+  session-is : sessionLines (v .numbers) (v .room) ≡ roomLines slot salt n (u .room)
   unfolding sessionLines callOn
   session-is = let e = settleOf l (v .numbers) (v .room) in settled-listed slot salt (v .numbers) (e .room) (e .answer) (demand .answers-0)
 
@@ -202,7 +216,7 @@ module _ (z : Sizes) (salt slot : ℕ) (salt-fits : salt < 2 ^ 32) (slot-fits : 
   image-lines = rw (read-back l lays-ipv4 z (m .filter) (m .cells) sealable salt slot salt-fits slot-fits .0)
 
   -- what is printed are the lines of the settled session
-  pub shows : printed (bytesOf 4 slot ++ image) ≡ listedLines slot salt n (u .room .table .flows) (u .room .list)
+  pub shows : printed (bytesOf 4 slot ++ image) ≡ roomLines slot salt n (u .room)
   shows = slot-image slot image slot-fits ∙ ap (imageLines slot) image-is ∙ image-lines ∙ session-is
 
   text : printed (bytesOf 4 slot ++ image) ≡ headLine slot salt (reportAlone (length flows) (opensLeft z salt F flows)) ++ flowLines (packetsOf taken) flows

@@ -21,6 +21,7 @@ linesOf (r ∷ rs) = lineOf r ++ linesOf rs
 abbrev pub stateFrom : theory.State → State
 stateFrom theory.stuck = state.Stuck
 stateFrom theory.short = state.Short
+stateFrom theory.stray = state.Stray
 stateFrom theory.whole = state.Whole
 
 abbrev pub reportFrom : theory.Report → Report

@@ -50,9 +50,9 @@ unfoldable pub opensLeft : Sizes → ℕ → List Key → List Key → ℕ
 opensLeft z salt F flows =
     numberUpto (tableCells ipv4Layout z) (λ c. ltb 0 (count (λ k. hasCell ipv4Layout z salt k c) (keep (λ k. not (among k flows)) F)))
 
--- 01 'A session', Report: "listed, counted .., open .., and a state", where every listed flow is counted
+-- 01 'A session', Report: "listed, counted .., open .., and a state", where every listed flow is counted and nothing is left over
 abbrev pub reportAlone : ℕ → ℕ → Report
-reportAlone n opens = record { listed = n; counted = n; opens = opens; state = stateOf opens 0 }
+reportAlone n opens = record { listed = n; counted = n; opens = opens; state = stateOf opens 0 true }
 
 -- the text says the truth about the packets taken
 pub record Prints (z : Sizes) (salt slot : ℕ) (taken : List Taken) (text : List ℕ) : Type 0 where

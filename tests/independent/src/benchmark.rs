@@ -79,6 +79,7 @@ fn main() {
     let curves = [3, 4].map(|k| settling(random, runs as usize, k));
     handing(random, runs as usize);
     exchanging(random, runs as usize);
+    reporting(random, runs as usize);
     if let Some(path) = words.get(2) {
         std::fs::write(path, time_plot::plot(&LOADS, &curves)).expect("the plot is written");
     }
@@ -396,6 +397,27 @@ fn exchanging(random: &mut Random, runs: usize) {
             let name = format!("k = {k}, N = {}, load {load}%", sizes.cells());
             println!("  {name:38} {rattle:9.1}  {own:14.1}  {:5.2}  {:8.0}", rattle / own, median(listed));
         }
+    }
+}
+
+/// Of a settled session; the report tests the session first, as every public call does.
+fn reporting(random: &mut Random, runs: usize) {
+    println!("\nreport with test, load 60%, settled       Rattle us  independent us  ratio");
+    for k in [3, 4] {
+        let sizes = Sizes { kf: 7, f: 16, k, q: 16 };
+        let (mut pair, mut room) = (Pair::default(), Room::new(sizes));
+        for _ in 0..runs {
+            let (flowset, _) = flowset(random, sizes, 60);
+            let (image, slot) = (flowset.sealed(), flowset.header().slot);
+            let mut session = elderflute::open(&image, slot, &mut room.lend()).expect("a good image");
+            let mut marked = opened::<Marked>(&image, slot);
+            assert_eq!(session.settle(&mut room.lend()).is_ok(), settled(&mut marked), "both sides settle");
+            pair.add(
+                || time(|| session.report(&room.lend()).expect("a session")).0,
+                || time(|| marked.report().expect("a session")).0,
+            );
+        }
+        line(&format!("k = {k}, N = {}", sizes.cells()), pair.per(1_000.0));
     }
 }
 

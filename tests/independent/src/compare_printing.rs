@@ -6,15 +6,15 @@ use std::io::{self, Read, Write};
 use std::process::{Command, Stdio};
 use std::thread;
 
+use crate::expected::PRINTED;
 use crate::image::Header;
+use crate::inspection::{self, MISSING};
+use crate::layout::KEY_BYTES;
 use crate::print::print;
 use crate::sizes::Sizes;
 use crate::working::Encoder;
 
-/// What a stream of good length must have met; `short` cannot be printed, for there are no hand-overs.
-const EXPECTED: [&str; 8] = ["whole", "stuck", "refused 1", "refused 2", "refused 3", "refused 4", "refused 5", "refused 14"];
-
-/// From so many inputs on, none of these may be missing.
+/// From so many inputs on, nothing that can be printed may be missing.
 const LONG_ENOUGH: usize = 200;
 
 /// Compares; where some differ, the shortest is kept in a file for `program` and `independent print` to be run on.
@@ -42,7 +42,7 @@ pub fn compare(program: &str, seed: u64, inputs: &[Vec<u8>], kept: &str) -> io::
         println!("printed:\n{printed}wanted:\n{wanted}");
     }
     let missing: Vec<&str> =
-        EXPECTED.into_iter().filter(|kind| inputs.len() >= LONG_ENOUGH && !kinds.contains_key(*kind)).collect();
+        PRINTED.into_iter().filter(|kind| inputs.len() >= LONG_ENOUGH && !kinds.contains_key(*kind)).collect();
     for kind in &missing {
         println!("never printed: {kind}");
     }
@@ -50,7 +50,7 @@ pub fn compare(program: &str, seed: u64, inputs: &[Vec<u8>], kept: &str) -> io::
 }
 
 /// The state of a report, or the refusal.
-fn kind(text: &str) -> String {
+pub fn kind(text: &str) -> String {
     let first = text.lines().next().unwrap_or("");
     if first.starts_with("refused") {
         first.into()
@@ -73,7 +73,8 @@ fn run(program: &str, input: &[u8]) -> io::Result<String> {
     Ok(if status.success() { text } else { format!("{text}(ended with {status})\n") })
 }
 
-/// Inputs and what is printed of them, for the gate: the shortest of each kind among `inputs`, and the edges of 01.
+/// Inputs and what is printed of them, for the gate: the shortest of each kind among `inputs`, the edges of 01, and what is
+/// left over: packets of a missed flow, or one byte of FlowXOR in the last cell.
 pub fn store(folder: &str, inputs: &[Vec<u8>]) -> io::Result<()> {
     let mut stored: BTreeMap<String, Vec<u8>> = BTreeMap::new();
     for input in inputs {
@@ -86,7 +87,11 @@ pub fn store(folder: &str, inputs: &[Vec<u8>]) -> io::Result<()> {
     let sealed = |sizes| Encoder::new(Header { sizes, salt: 9, slot: 7 }).sealed();
     let wanted = |image: &[u8]| [&7u32.to_be_bytes()[..], image].concat();
     let largest = wanted(&sealed(Sizes { kf: 8, f: 16, k: 4, q: 16 }));
-    stored.insert("empty".into(), wanted(&sealed(Sizes { kf: 1, f: 1, k: 2, q: 1 })));
+    stored.insert("empty".into(), wanted(&sealed(Sizes::SMALLEST)));
+    let mut byte_left = Encoder::new(Header { sizes: Sizes::SMALLEST, salt: 9, slot: 7 });
+    byte_left.cell(47)[KEY_BYTES - 1] = 1;
+    stored.insert("stray".into(), wanted(&inspection::encoded(MISSING, &inspection::flows()).sealed()));
+    stored.insert("stray-xor".into(), wanted(&byte_left.sealed()));
     stored.insert("slot-cut".into(), vec![0, 0, 7]);
     stored.insert("no-image".into(), wanted(&[]));
     stored.insert("longest".into(), largest.clone());

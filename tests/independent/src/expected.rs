@@ -47,7 +47,10 @@ const NOT_A_SESSION: [Refusal; 8] =
 
 const OPENED: [&str; 8] =
     ["0", "1 block 0", "2 block 0", "2 later block", "3 block 0", "3 later block", "4 later block", "5 block 0"];
-const REPORTED: [&str; 4] = ["0 whole", "0 short", "0 stuck", "0 with 2 N listed"];
+const REPORTED: [&str; 5] = ["0 whole", "0 stray", "0 short", "0 stuck", "0 with 2 N listed"];
+/// Left over alone, in each of these cells: a report that passes one of them over says whole.
+const LEFT: [&str; 3] = ["first byte of FlowXOR", "last byte of FlowXOR", "PacketCount"];
+const CELLS: [&str; 3] = ["first", "middle", "last"];
 const SETTLED: [&str; 8] = [
     "0",
     "0 with 2 N listed",
@@ -107,6 +110,9 @@ pub fn expected_session_kinds() -> Vec<String> {
             kinds.extend([OverHanded, OverPeeled].map(|reason| refused_kind(call, reason) + " with 2 N listed"));
         }
     }
+    for cell in CELLS {
+        kinds.extend(LEFT.map(|left| format!("report 0 stray, {left} of the {cell} cell")));
+    }
     // One peeled flow too many, and one open cell: two ways to exceed N.
     let over_peeled = |call| refused_kind(call, OverPeeled) + " with 2 N listed, ";
     for call in ["report", "settle"] {
@@ -121,11 +127,11 @@ pub fn expected_call_kinds() -> Vec<String> {
     kinds.extend(expected_session_kinds());
     kinds.retain(|kind| !["hash ", "places "].iter().any(|call| kind.starts_with(call)));
     kinds.extend(STEPS.map(|kind| format!("sequence {kind}")));
-    kinds.extend(PRINTED.map(|kind| format!("print {kind}")));
+    kinds.extend(PRINTED.iter().chain(&["16", "length"]).map(|kind| format!("print {kind}")));
     kinds
 }
 
-const STEPS: [&str; 25] = [
+const STEPS: [&str; 26] = [
     "settle 0",
     "settle 0 with 2 N listed",
     "settle 0 grown to 2 N - k + 1 listed",
@@ -145,6 +151,7 @@ const STEPS: [&str; 25] = [
     "hand-over 12 with 2 N - k listed",
     "hand-over 16",
     "report whole",
+    "report stray",
     "report short",
     "report stuck",
     "report 8",
@@ -153,8 +160,9 @@ const STEPS: [&str; 25] = [
     "length",
 ];
 
-const PRINTED: [&str; 10] =
-    ["whole", "stuck", "refused 1", "refused 2", "refused 3", "refused 4", "refused 5", "refused 14", "16", "length"];
+/// `short` cannot be printed, for there are no hand-overs.
+pub const PRINTED: [&str; 9] =
+    ["whole", "stray", "stuck", "refused 1", "refused 2", "refused 3", "refused 4", "refused 5", "refused 14"];
 
 fn of_call(call: &str, groups: &[&[Refusal]]) -> Vec<String> {
     groups.concat().into_iter().map(|refusal| refused_kind(call, refusal)).collect()

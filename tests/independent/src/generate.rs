@@ -17,17 +17,26 @@ pub fn requests(seed: u64, count: usize) -> Vec<Request> {
     (0..count).map(|number| generator.request(number)).collect()
 }
 
-/// Of requests 6 to 10.
-/// Inputs of the printing program: mostly a slot and an image, now and then one that is cut, empty or too long.
+/// Inputs of the printing program: mostly a slot and an image, now and then one that is cut, empty or too long. Of eight,
+/// one settles with something left over; the others count their turns without these.
 pub fn printing_inputs(seed: u64, count: usize) -> Vec<Vec<u8>> {
     let random = &mut Random::new(seed);
-    (0..count).map(|number| printing_input(random, number)).collect()
+    // From a generator of their own: how many are drawn until one will do changes no other input.
+    let strays = &mut Random::new(!seed);
+    let input = |number: usize| match number % 8 {
+        7 => slot_and_image(sessions::opens::stray(strays, number / 8)),
+        _ => printing_input(random, number - number / 8),
+    };
+    (0..count).map(input).collect()
 }
 
-fn printing_input(random: &mut Random, number: usize) -> Vec<u8> {
-    let (slot, image) = sessions::opens::printable(random, number);
-    let mut input = [&slot.to_be_bytes()[..], &image].concat();
-    match number % 16 {
+fn slot_and_image((slot, image): (u32, Vec<u8>)) -> Vec<u8> {
+    [&slot.to_be_bytes()[..], &image].concat()
+}
+
+fn printing_input(random: &mut Random, turn: usize) -> Vec<u8> {
+    let mut input = slot_and_image(sessions::opens::printable(random, turn));
+    match turn % 16 {
         3 => input.truncate(random.below(6)),
         7 => input.truncate(random.below(input.len() + 1)),
         11 => input.extend(vec![0; random.pick(&[1, 4, 511, 512, 40_960])]),
@@ -36,6 +45,7 @@ fn printing_input(random: &mut Random, number: usize) -> Vec<u8> {
     input
 }
 
+/// Of requests 6 to 10.
 pub fn session_requests(seed: u64, count: usize) -> Vec<Request> {
     let random = &mut Random::new(seed);
     (0..count).map(|number| sessions::request(random, number)).collect()

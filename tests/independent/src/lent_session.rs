@@ -4,6 +4,7 @@
 use crate::engine::Engine;
 use crate::fresh::Fresh;
 use crate::image::Header;
+use crate::layout::KEY_BYTES;
 use crate::lent::{right_lengths, Lent, Slice, HANDED, KNOWN, SLICES};
 use crate::marked::{Marked, Unknown};
 use crate::places::Hashed;
@@ -56,6 +57,8 @@ pub struct LentSession {
     pub listed: u32,
     pub memory: Lent,
 }
+
+const LAST_BYTE: usize = KEY_BYTES - 1;
 
 /// Of a list that a call has made longer than any call can.
 pub const PAST: &str = "grown past 2 N - k + 1 listed";
@@ -147,6 +150,27 @@ impl LentSession {
 
     pub fn has_open_cell(&self) -> bool {
         self.memory.bytes(Slice::Flows).iter().any(|&byte| byte != 0)
+    }
+
+    /// Where one byte of FlowXOR or one PacketCount is not 0 and all others are: which.
+    pub fn only_rest(&self) -> Option<String> {
+        let n = self.header.sizes.cells();
+        let xors = self.memory.bytes(Slice::Xors).iter().enumerate().filter(|(_, &byte)| byte != 0);
+        let bytes = xors.map(|(at, _)| match at % KEY_BYTES {
+            0 => (at / KEY_BYTES, "first byte of FlowXOR"),
+            LAST_BYTE => (at / KEY_BYTES, "last byte of FlowXOR"),
+            _ => (at / KEY_BYTES, "middle byte of FlowXOR"),
+        });
+        let packets =
+            (0..n).filter(|&cell| self.memory.get(Slice::Packets, cell) != 0).map(|cell| (cell, "PacketCount"));
+        let rest: Vec<(usize, &str)> = bytes.chain(packets).collect();
+        let [(cell, what)] = rest[..] else { return None };
+        let which = match cell {
+            0 => "first",
+            _ if cell == n - 1 => "last",
+            _ => "middle",
+        };
+        Some(format!("{what} of the {which} cell"))
     }
 
     /// Writes what a session holds. Records past its list stay as they are.

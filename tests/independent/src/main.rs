@@ -20,6 +20,7 @@ mod generate;
 mod hash;
 mod image;
 mod index;
+mod inspection;
 mod ipv4;
 mod key;
 mod layout;

@@ -2,16 +2,22 @@
 
 use std::collections::{BTreeMap, BTreeSet};
 
-use crate::encoder::{self, Flow};
+use crate::bytes::{put_u32, u32_at};
+use crate::encoder::Flow;
 use crate::exchange::exchange;
-use crate::image::{self, Header};
+use crate::flow;
+use crate::image::Header;
+use crate::inspection;
+use crate::ipv4::Ipv4;
 use crate::key::{Key, KeyBytes};
+use crate::layout::PACKET_COUNT;
 use crate::marked::Marked;
 use crate::random::Random;
 use crate::report::State;
 use crate::session::Session;
 use crate::sizes::Sizes;
 use crate::sizing::{random_packets, STRUCTURED};
+use crate::working::Encoder;
 
 /// A filter that missed no flow in these measures, so that only the table decides.
 const WIDE: (u8, u8) = (7, 16);
@@ -26,7 +32,13 @@ pub fn measure(what: &str, seed: u64, runs: usize) -> Option<String> {
         "sizes" => sizes(random, runs),
         _ => return None,
     };
-    Some(format!("# measure {what}: seed {seed}, {runs} flowsets a figure\n{text}"))
+    let figure = match what {
+        "missed" => {
+            format!("flowsets with a missed flow a line, {TIMES_FOR_FEW} times as many up to {FEW_FLOWS} flows")
+        }
+        _ => "flowsets a figure".into(),
+    };
+    Some(format!("# measure {what}: seed {seed}, {runs} {figure}\n{text}"))
 }
 
 fn table(k: u8, q: u8) -> Sizes {
@@ -39,16 +51,24 @@ fn percent(count: usize, of: usize) -> f64 {
 
 /// An image of the packets, each taken so often, and how many of its flows the filter took for old ones.
 fn sealed(sizes: Sizes, salt: u32, slot: u32, packets: &[(Vec<u8>, u32)]) -> (Vec<u8>, usize) {
-    let (mut filter, mut cells) = (vec![0; sizes.filter_bytes()], vec![0; sizes.cells_bytes()]);
-    let mut take = |packet: &[u8]| encoder::packet(sizes, salt, &mut filter, &mut cells, packet);
-    let mut missed = 0;
-    for (packet, times) in packets {
-        missed += usize::from(take(packet) == Ok(Flow::Old));
-        (1..*times).for_each(|_| assert_eq!(take(packet), Ok(Flow::Old)));
+    let mut encoder = Encoder::new(Header { sizes, salt, slot });
+    let missed = packets.iter().filter(|(packet, _)| encoder.packet(packet) == Ok(Flow::Old)).count();
+    packets.iter().filter(|(_, times)| *times > 1).for_each(|(packet, times)| count(&mut encoder, packet, times - 1));
+    (encoder.sealed(), missed)
+}
+
+/// So many more packets of a flow that has been taken: they find its filter bits set, and add to PacketCount alone.
+fn count(encoder: &mut Encoder, packet: &[u8], more: u32) {
+    let Header { sizes, salt, .. } = encoder.header;
+    for place in flow::cells(sizes, salt, &key_of(packet)) {
+        let cell = encoder.cell(place);
+        let packets = u32_at(cell, PACKET_COUNT.start);
+        put_u32(cell, PACKET_COUNT.start, packets + more);
     }
-    let mut image = vec![0; sizes.image_bytes()];
-    image::seal(Header { sizes, salt, slot }, &filter, &cells, &mut image).expect("room and sizes fit");
-    (image, missed)
+}
+
+fn key_of(packet: &[u8]) -> KeyBytes {
+    Key::of_packet(packet).expect("a packet with a key").to_bytes()
 }
 
 fn opened(sizes: Sizes, salt: u32, slot: u32, packets: &[(Vec<u8>, u32)]) -> Session<Marked> {
@@ -201,7 +221,7 @@ const SHARED: [usize; 3] = [100, 75, 50];
 /// Two switches of one size and different salts, some of whose flows are the same: what A lists alone and after an exchange.
 fn sharing(random: &mut Random, runs: usize) -> String {
     let mut text = String::from(
-        "k  q     N  load  flows  shared  listed% alone  after  counted% after  whole%  short%  stuck%  refused\n",
+        "k  q     N  load  flows  shared  listed% alone  after  counted% after  whole%  short%  stuck%  stray%  refused\n",
     );
     for (k, q) in [(3, 4), (3, 16), (4, 16)] {
         for shared in SHARED {
@@ -214,7 +234,7 @@ fn sharing(random: &mut Random, runs: usize) -> String {
 fn sharing_line(random: &mut Random, sizes: Sizes, load: usize, shared: usize, runs: usize) -> String {
     let flows = sizes.cells() * load / 100;
     let common = flows * shared / 100;
-    let (mut alone, mut after, mut counted, mut states, mut refused) = (0, 0, 0, [0; 3], 0);
+    let (mut alone, mut after, mut counted, mut states, mut refused) = (0, 0, 0, [0; 4], 0);
     for _ in 0..runs {
         let packets = once(random_packets(random, 2 * flows - common));
         let of_b = &packets[flows - common..];
@@ -229,57 +249,134 @@ fn sharing_line(random: &mut Random, sizes: Sizes, load: usize, shared: usize, r
         counted += report.counted;
         states[report.state as usize] += 1;
     }
-    let [stuck, short, whole] = states.map(|count| percent(count, runs));
+    let [stuck, short, stray, whole] = states.map(|count| percent(count, runs));
     let [alone, after, counted] = [alone, after, counted].map(|count| percent(count, runs * flows));
     let (k, q, n) = (sizes.k, sizes.q, sizes.cells());
-    format!("{k} {q:2} {n:5} {load:4}% {flows:6} {shared:6}% {alone:14.1} {after:6.1} {counted:15.1} {whole:7.1} {short:7.1} {stuck:7.1} {refused:8}\n")
+    format!("{k} {q:2} {n:5} {load:4}% {flows:6} {shared:6}% {alone:14.1} {after:6.1} {counted:15.1} {whole:7.1} {short:7.1} {stuck:7.1} {stray:7.1} {refused:8}\n")
 }
 
 // ---- missed flows
 
-const MISSED: [(usize, u8, u8); 6] = [(30, 1, 1), (60, 1, 1), (187, 1, 1), (187, 1, 4), (748, 2, 4), (748, 4, 4)];
+/// What passes a switch in a slot: a packet of each flow, and how often it comes.
+type Traffic = fn(&mut Random, usize) -> Vec<(Vec<u8>, u32)>;
 
-/// Flowsets at 65% of their cells whose filter missed a flow: how they end.
+/// Flows, and F, kf, k and q: a filter that is too small for them.
+type Missing = (usize, [u8; 4]);
+
+const SMALL: [Missing; 7] = [
+    (30, [1, 1, 2, 2]),
+    (30, [1, 1, 3, 1]),
+    (46, [1, 1, 3, 1]),
+    (60, [1, 1, 3, 2]),
+    (33, [1, 1, 4, 1]),
+    (62, [1, 1, 4, 1]),
+    (115, [1, 2, 4, 2]),
+];
+const LARGE: [Missing; 4] = [(187, [1, 1, 3, 4]), (187, [1, 4, 3, 4]), (748, [2, 4, 3, 16]), (748, [4, 4, 3, 16])];
+const CELL: [Missing; 4] = [(30, [1, 1, 2, 2]), (30, [1, 1, 3, 1]), (30, [1, 1, 3, 2]), (30, [1, 1, 4, 1])];
+const MISSED: [(&str, Traffic, &[Missing]); 4] = [
+    ("random keys", random_keys, &SMALL),
+    ("random keys", random_keys, &LARGE),
+    ("four hosts", four_hosts, &SMALL),
+    ("inspection cell", inspection_cell, &CELL),
+];
+
+/// Up to so many flows, a missed one now and then ends in a report that says whole: more flowsets show how often.
+const FEW_FLOWS: usize = 120;
+const TIMES_FOR_FEW: usize = 10;
+
+/// How flowsets end whose filter missed a flow. One that says whole lacks the flow, and other flows' counts have its packets.
 fn missed(random: &mut Random, runs: usize) -> String {
-    let mut text = String::from("flows   F  kf  k  q  missed%  of these: 14  stuck  whole, right counts  whole, a wrong count  whole, flows missing\n");
-    for (flows, f, kf) in MISSED {
-        let sizes = Sizes { kf, f, k: 3, q: (flows * 100).div_ceil(65 * 72) as u8 };
-        text += &missed_line(random, sizes, flows, runs);
+    let mut text = String::from("traffic          flows   F  kf  k  q  load  missed%  of these: 14  stuck  stray, right counts  stray, a wrong count  whole, a wrong count\n");
+    for (name, traffic, lines) in MISSED {
+        for &(flows, sizes) in lines {
+            text += &format!("{name:15} {}", missed_line(random, traffic, flows, sizes, runs));
+        }
     }
     text
 }
 
-fn missed_line(random: &mut Random, sizes: Sizes, flows: usize, runs: usize) -> String {
-    let (mut with_missed, mut damage, mut stuck, mut right, mut wrong, mut missing) = (0, 0, 0, 0, 0, 0);
-    for _ in 0..runs {
-        let packets: Vec<(Vec<u8>, u32)> =
-            random_packets(random, flows).into_iter().map(|packet| (packet, random.between(1, 20) as u32)).collect();
-        let (image, number) = sealed(sizes, random.u32(), 0, &packets);
-        if number == 0 {
-            continue;
-        }
-        with_missed += 1;
-        let mut session: Session<Marked> = Session::open(&image, 0).expect("a sealed image");
-        if !matches!(session.settle(), Ok(Ok(()))) {
-            damage += 1;
-        } else if state(&session) != State::Whole {
-            stuck += 1;
-        } else {
-            let false_counts = wrong_counts(&session, &packets);
-            *(if false_counts { &mut wrong } else { &mut right }) += 1;
-            missing += usize::from(lacks(&session, &packets));
+fn missed_line(random: &mut Random, traffic: Traffic, flows: usize, [f, kf, k, q]: [u8; 4], runs: usize) -> String {
+    let sizes = Sizes { kf, f, k, q };
+    let wanted = if flows <= FEW_FLOWS { TIMES_FOR_FEW * runs } else { runs };
+    let (mut drawn, mut with_missed, mut ends) = (0, 0, Ends::default());
+    while with_missed < wanted {
+        let packets = traffic(random, flows);
+        let (image, missed) = sealed(sizes, random.u32(), 0, &packets);
+        drawn += 1;
+        if missed > 0 {
+            with_missed += 1;
+            ends.add(&image, &packets);
         }
     }
-    let Sizes { kf, f, k, q } = sizes;
-    let missed = percent(with_missed, runs);
-    let [damage, stuck, right, wrong, missing] =
-        [damage, stuck, right, wrong, missing].map(|count| percent(count, with_missed));
-    format!("{flows:5} {f:3} {kf:3} {k:2} {q:2} {missed:8.1} {damage:13.1} {stuck:6.1} {right:20.1} {wrong:21.1} {missing:21.1}\n")
+    let (missed, load) = (percent(with_missed, drawn), percent(flows, sizes.cells()));
+    let Ends { damage, stuck, stray, miscounted, whole } = ends;
+    let [damage, stuck, right, wrong, whole] =
+        [damage, stuck, stray - miscounted, miscounted, whole].map(|count| percent(count, with_missed));
+    format!("{flows:6} {f:3} {kf:3} {k:2} {q:2} {load:4.0}% {missed:8.1} {damage:13.1} {stuck:6.1} {right:20.1} {wrong:21.1} {whole:21.2}\n")
+}
+
+fn random_keys(random: &mut Random, flows: usize) -> Vec<(Vec<u8>, u32)> {
+    random_packets(random, flows).into_iter().map(|packet| (packet, some_times(random))).collect()
+}
+
+fn some_times(random: &mut Random) -> u32 {
+    random.between(1, 20) as u32
+}
+
+/// To one server, from ports that count up.
+fn four_hosts(random: &mut Random, flows: usize) -> Vec<(Vec<u8>, u32)> {
+    let (first_host, server) = (random.u32(), random.u32());
+    let flow = |port: usize| {
+        let host = first_host.wrapping_add(random.below(4) as u32);
+        (Ipv4::with_ports(6, host, server, (50_000 + port as u16, 445)).bytes(), some_times(random))
+    };
+    (0..flows).map(flow).collect()
+}
+
+/// The list's thirty flows with their packets.
+fn inspection_cell(random: &mut Random, flows: usize) -> Vec<(Vec<u8>, u32)> {
+    let list = inspection::with_chosen_ports(random, inspection::flows());
+    assert_eq!(list.len(), flows, "the list's flows");
+    list.into_iter().map(|(packet, times)| (packet.bytes(), times)).collect()
+}
+
+/// How flowsets with a missed flow end.
+#[derive(Default)]
+struct Ends {
+    damage: usize,
+    stuck: usize,
+    stray: usize,
+    /// Of the stray ones, those with a wrong count.
+    miscounted: usize,
+    whole: usize,
+}
+
+impl Ends {
+    fn add(&mut self, image: &[u8], packets: &[(Vec<u8>, u32)]) {
+        let mut session: Session<Marked> = Session::open(image, 0).expect("a sealed image");
+        if !matches!(session.settle(), Ok(Ok(()))) {
+            self.damage += 1;
+            return;
+        }
+        match state(&session) {
+            State::Stuck => self.stuck += 1,
+            State::Short => unreachable!("without a hand-over every listed flow has its count"),
+            State::Stray => {
+                self.stray += 1;
+                self.miscounted += usize::from(wrong_counts(&session, packets));
+            }
+            State::Whole => {
+                self.whole += 1;
+                let unseen = lacks(&session, packets) && wrong_counts(&session, packets);
+                assert!(unseen, "with no packet left over, those of a missed flow are in other counts");
+            }
+        }
+    }
 }
 
 fn truth(packets: &[(Vec<u8>, u32)]) -> BTreeMap<KeyBytes, u32> {
-    let key = |packet: &[u8]| Key::of_packet(packet).expect("a packet with a key").to_bytes();
-    packets.iter().map(|(packet, times)| (key(packet), *times)).collect()
+    packets.iter().map(|(packet, times)| (key_of(packet), *times)).collect()
 }
 
 /// Whether a listed count is not the flow's packets.

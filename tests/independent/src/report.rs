@@ -8,6 +8,7 @@ use crate::table::Table;
 pub enum State {
     Stuck,
     Short,
+    Stray,
     Whole,
 }
 
@@ -16,6 +17,7 @@ impl fmt::Display for State {
         out.write_str(match self {
             State::Stuck => "stuck",
             State::Short => "short",
+            State::Stray => "stray",
             State::Whole => "whole",
         })
     }
@@ -38,6 +40,8 @@ impl Report {
             State::Stuck
         } else if counted < listed {
             State::Short
+        } else if table.has_rest() {
+            State::Stray
         } else {
             State::Whole
         };

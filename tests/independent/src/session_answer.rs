@@ -19,6 +19,7 @@ use crate::key::KeyBytes;
 use crate::lent::Lent;
 use crate::lent_session::{LentSession, Resumed};
 use crate::refusal::Refusal;
+use crate::report::State;
 use crate::request::{Request, EXCHANGE, HAND_OVER, OPEN, REPORT, SETTLE};
 use crate::session::Session;
 use crate::session_request::{parse_exchange, parse_hand_over, parse_session, Open};
@@ -86,6 +87,9 @@ fn report<E: Resumed>(before: &LentSession) -> Answer {
         Ok(report) => {
             let mut kinds = kinds_of("report", 0, &[(before.listed, &after)]);
             kinds.push(kind("report", format!("0 {}", report.state)));
+            if report.state == State::Stray {
+                kinds.extend(after.only_rest().map(|rest| kind("report", format!("0 stray, {rest}"))));
+            }
             (format!("0 {} {} {} {}", report.listed, report.counted, report.open, report.state), kinds)
         }
         Err(refusal) => refused("report", refusal, &[before]),

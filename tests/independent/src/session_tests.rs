@@ -10,6 +10,7 @@ mod printing;
 mod refused;
 mod requests;
 mod sequences;
+mod strays;
 mod tiny;
 
 use crate::answer::refused_kind;
@@ -32,8 +33,14 @@ pub fn run(tally: &mut Tally) {
         refused::marks_and_numbers,
         refused::rooms,
         refused::order_in_exchange,
+        strays::every_place,
+        strays::order,
+        strays::inspection_cell,
+        strays::missed_flows,
         printing::lines,
+        printing::inputs,
         lines::by_hand,
+        lines::strays_by_hand,
         lines::damaged_by_hand,
         lines::carried,
         lines::lengths,
@@ -58,7 +65,8 @@ fn possible_answers() -> Vec<String> {
         kinds("hand-over", &[NotInFilter, Listed, EmptyCell, HandedFull]),
         kinds("settle", &[PeelListed, PeelEmptyCell, CountZero, CountOver]),
         kinds("exchange", &[OtherSlot]),
-        ["hand-over ok", "settle ok", "state stuck", "state short", "state whole"].map(String::from).to_vec(),
+        ["hand-over ok", "settle ok"].map(String::from).to_vec(),
+        ["state stuck", "state short", "state stray", "state whole"].map(String::from).to_vec(),
         ["exchange ok", "exchange with answers 12", "exchange 14 at A", "exchange 14 at B"].map(String::from).to_vec(),
     ]
     .concat()

@@ -26,6 +26,11 @@ impl Cell {
         self.flow_count > 0
     }
 
+    /// A byte of FlowXOR or packets, whatever the FlowCount.
+    pub fn has_rest(&self) -> bool {
+        self.flow_xor.iter().any(|&byte| byte != 0) || self.packet_count != 0
+    }
+
     /// PacketCount stays: the flow's packets leave with its count.
     pub fn take_out(&mut self, key: &KeyBytes) {
         self.flow_xor.iter_mut().zip(key).for_each(|(mixed, byte)| *mixed ^= byte);
@@ -61,6 +66,10 @@ impl Table {
 
     pub fn open_cells(&self) -> usize {
         self.cells.iter().filter(|cell| cell.is_open()).count()
+    }
+
+    pub fn has_rest(&self) -> bool {
+        self.cells.iter().any(Cell::has_rest)
     }
 
     pub fn handed(&self) -> usize {

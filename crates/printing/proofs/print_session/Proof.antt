@@ -71,20 +71,20 @@ returns c =
 
 put-listed-requires : tie.Need-put-listed-requires
 put-listed-requires c κs =
-    let c6 = c .before .before .before .before .before .before in
-    let c20 = c6 .before .before .before .before .before .before .before .before .before .before .before .before .before .before in
-    let c26 = c20 .before .before .before .before .before .before in
-    let c40 = c26 .before .before .before .before .before .before .before .before .before .before .before .before .before .before in
-    let c47 = c40 .before .before .before .before .before .before .before in
-    let s = c47 in
-    let q = session-listed (s .args .s) (M s) (c26 .settle .ensures) (λ i. c40 .slice-known6 .given i .fits) (c6 .e .given .1) in (
+    let c8 = c .before .before .before .before .before .before .before .before in
+    let c22 = c8 .before .before .before .before .before .before .before .before .before .before .before .before .before .before in
+    let c28 = c22 .before .before .before .before .before .before in
+    let c42 = c28 .before .before .before .before .before .before .before .before .before .before .before .before .before .before in
+    let c49 = c42 .before .before .before .before .before .before .before in
+    let s = c49 in
+    let q = session-listed (s .args .s) (M s) (c28 .settle .ensures) (λ i. c42 .slice-known6 .given i .fits) (c8 .e .given .1) in (
       omega arith,
       q .few,
-      omega (arith, q .cells, c26 .settle .kept),
-      omega (arith, q .keys, c26 .settle .kept),
+      omega (arith, q .cells, c28 .settle .kept),
+      omega (arith, q .keys, c28 .settle .kept),
       omega
-          (arith, q .counts, c26 .settle .kept),
-      omega (arith, q .flags, c26 .settle .kept),
+          (arith, q .counts, c28 .settle .kept),
+      omega (arith, q .flags, c28 .settle .kept),
     )
 
 same-length-11 : tie.Need-same-length-11
@@ -120,13 +120,13 @@ same-length-20 c = search needs
 returns-2 : tie.Need-returns-2
 returns-2 c =
     let c2 = c .before .before in
-    let c9 = c2 .before .before .before .before .before .before .before in
-    let c23 = c9 .before .before .before .before .before .before .before .before .before .before .before .before .before .before in
-    let c29 = c23 .before .before .before .before .before .before in
-    let c43 = c29 .before .before .before .before .before .before .before .before .before .before .before .before .before .before in
-    let c50 = c43 .before .before .before .before .before .before .before in
-    let s = c50 in
-    put-same (session-done (s .args .s) (M s) (c29 .settle .ensures) (c9 .e .given .1)) (c2 .put-listed .ensures)
+    let c11 = c2 .before .before .before .before .before .before .before .before .before in
+    let c25 = c11 .before .before .before .before .before .before .before .before .before .before .before .before .before .before in
+    let c31 = c25 .before .before .before .before .before .before in
+    let c45 = c31 .before .before .before .before .before .before .before .before .before .before .before .before .before .before in
+    let c52 = c45 .before .before .before .before .before .before .before in
+    let s = c52 in
+    put-same (session-done (s .args .s) (M s) (c31 .settle .ensures) (c11 .e .given .1)) (c2 .put-listed .ensures)
 
 pub print-session-spec : {M : Type 1} → statement M
 print-session-spec =

@@ -13,10 +13,10 @@ report-of-requires c κs = search needs
 put-head-requires : tie.Need-put-head-requires
 put-head-requires c κs =
     let c1 = c .before in
-    let c7 = c1 .before .before .before .before .before .before in
+    let c7 = c1 .before .before .before .before .before .before .before .before in
     let a = c7 .args in omega (
       arith,
-      report-le (a .slot) (a .salt) (a .n) (a .flows .now) (a .flags .now) (omega arith) (omega arith) (omega arith) (omega arith)
+      report-le (a .slot) (a .salt) (a .n) (a .xors .now) (a .flows .now) (a .packets .now) (a .flags .now) (omega arith) (omega arith) (omega arith) (omega arith)
           (c1 .report-of .ensures),
     )
 
@@ -24,10 +24,10 @@ put-records-requires : tie.Need-put-records-requires
 put-records-requires c κs =
     let c3 = c .before .before .before in
     let c5 = c3 .before .before in
-    let c11 = c5 .before .before .before .before .before .before in
+    let c11 = c5 .before .before .before .before .before .before .before .before in
     let a = c11 .args in
     let e = put-length (c3 .put-head .ensures) in
-    let h = report-le (a .slot) (a .salt) (a .n) (a .flows .now) (a .flags .now) (omega arith) (omega arith) (omega arith) (omega arith)
+    let h = report-le (a .slot) (a .salt) (a .n) (a .xors .now) (a .flows .now) (a .packets .now) (a .flags .now) (omega arith) (omega arith) (omega arith) (omega arith)
     (c5 .report-of .ensures) in
     (omega (arith, c3 .put-head .ensures .place), omega arith, omega arith, omega arith)
 
@@ -39,9 +39,9 @@ returns c =
     let c2 = c .before .before in
     let c6 = c2 .before .before .before .before in
     let c8 = c6 .before .before in
-    let c14 = c8 .before .before .before .before .before .before in
+    let c14 = c8 .before .before .before .before .before .before .before .before in
     let a = c14 .args in
-    listed-put (a .slot) (a .salt) (a .n) (a .flows .now) (records (a .keys .now) (a .counts .now) (a .flags .now)) (c8 .report-of .ensures)
+    listed-put (a .slot) (a .salt) (a .n) (a .xors .now) (a .flows .now) (a .packets .now) (records (a .keys .now) (a .counts .now) (a .flags .now)) (c8 .report-of .ensures)
     (c6 .put-head .ensures) (c2 .put-records .ensures)
 
 pub put-listed-spec : {M : Type 1} → statement M

@@ -10,7 +10,10 @@ returns-2 : tie.Need-returns-2
 returns-2 c = rw (le-ltb _ _ (c .before .if1 .left), lt-ltb _ _ (c .if2 .taken))
 
 returns-3 : tie.Need-returns-3
-returns-3 c = rw (le-ltb _ _ (c .before .if1 .left), le-ltb _ _ (c .if2 .left))
+returns-3 c = rw (le-ltb _ _ (c .before .before .if1 .left), le-ltb _ _ (c .before .if2 .left), c .if3 .taken)
+
+returns-4 : tie.Need-returns-4
+returns-4 c = rw (le-ltb _ _ (c .before .before .if1 .left), le-ltb _ _ (c .before .if2 .left), c .if3 .left)
 
 pub state-of-spec : {M : Type 1} → statement M
-state-of-spec = tie.close (tie.spec returns returns-2 returns-3)
+state-of-spec = tie.close (tie.spec returns returns-2 returns-3 returns-4)

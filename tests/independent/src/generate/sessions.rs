@@ -18,23 +18,32 @@ use crate::request::{Request, EXCHANGE, HAND_OVER, OPEN, REPORT, SETTLE};
 use crate::session_request::{exchange_request, hand_over_request, request_on, SESSION_HEAD};
 use faults::{dress, fault_of_turn, faulty, two_faults};
 use samples::{Family, Sample};
-use tables::Spoiled;
+use tables::{Left, Spoiled, Which};
 
 const CALLS: [u8; 5] = [OPEN, REPORT, SETTLE, HAND_OVER, EXCHANGE];
 
-const REPORTED: [Family; 9] = [
+const REPORTED: [Family; 18] = [
     Family::Light,
+    Family::Stray(Which::First, Left::FirstByte),
     Family::Settled,
+    Family::Stray(Which::First, Left::LastByte),
     Family::Short,
+    Family::Stray(Which::First, Left::Packets),
     Family::Heavy,
+    Family::Stray(Which::Middle, Left::FirstByte),
     Family::Worked,
+    Family::Stray(Which::Middle, Left::LastByte),
     Family::Full,
+    Family::Stray(Which::Middle, Left::Packets),
     Family::Driven,
+    Family::Stray(Which::Last, Left::FirstByte),
     Family::Padded,
+    Family::Stray(Which::Last, Left::LastByte),
     Family::Damaged,
+    Family::Stray(Which::Last, Left::Packets),
 ];
 
-const SETTLED: [Family; 15] = [
+const SETTLED: [Family; 17] = [
     Family::Light,
     Family::Heavy,
     Family::Spoiled(Spoiled::PeelListed),
@@ -50,6 +59,8 @@ const SETTLED: [Family; 15] = [
     Family::Short,
     Family::Padded,
     Family::Full,
+    Family::Overlooked,
+    Family::Stray(Which::Middle, Left::Packets),
 ];
 
 /// Of ten on a session, one has a list as long as it gets; the others count their turns without these.

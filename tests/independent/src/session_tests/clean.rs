@@ -1,4 +1,5 @@
-//! Clean flowsets: what is found is the truth, hand-overs add no count, and their time does not matter.
+//! Clean flowsets: what is found is the truth, hand-overs add no count, their time does not matter, and nothing is ever left
+//! over.
 
 use std::collections::BTreeMap;
 
@@ -16,7 +17,7 @@ use crate::session::Session;
 use crate::sizes::Sizes;
 use crate::table::{Cell, Record};
 
-use super::pair::{meet_hand_over, meet_settle, meet_state};
+use super::pair::{meet_hand_over, meet_settle, meet_state, state_of_figures};
 
 pub fn clean_sessions(tally: &mut Tally) {
     let mut checked = 0;
@@ -54,8 +55,16 @@ fn clean_session(tally: &mut Tally, random: &mut Random, flowset: &Flowset, name
     tally.holds_in(name, "handed first", end_state(&first) == end_state(&helped));
 }
 
-fn open(flowset: &Flowset) -> Session<Marked> {
-    Session::open(&flowset.sealed(), flowset.header().slot).expect("a sealed image")
+fn open(tally: &mut Tally, flowset: &Flowset, name: &str) -> Session<Marked> {
+    let session = Session::open(&flowset.sealed(), flowset.header().slot).expect("a sealed image");
+    never_stray(tally, &session, name);
+    session
+}
+
+/// Whatever calls were made: the figures alone give the state.
+pub fn never_stray(tally: &mut Tally, session: &Session<Marked>, name: &str) {
+    let report = session.report().expect("a session");
+    tally.holds_in(name, "the figures give the state", report.state == state_of_figures(report));
 }
 
 fn settle(tally: &mut Tally, session: &mut Session<Marked>, name: &str) {
@@ -63,10 +72,11 @@ fn settle(tally: &mut Tally, session: &mut Session<Marked>, name: &str) {
     tally.equal(name, answer, Ok(()));
     meet_settle(tally, answer);
     meet_state(tally, session.report().expect("a session"));
+    never_stray(tally, session, name);
 }
 
 fn settled_alone(tally: &mut Tally, flowset: &Flowset, name: &str) -> Session<Marked> {
-    let mut session = open(flowset);
+    let mut session = open(tally, flowset, name);
     settle(tally, &mut session, name);
     tell_truth(tally, &session, flowset, name);
     let report = session.report().expect("a session");
@@ -84,7 +94,7 @@ fn with_hand_overs(
     flowset: &Flowset,
     name: &str,
 ) -> (Session<Marked>, Vec<KeyBytes>) {
-    let mut session = open(flowset);
+    let mut session = open(tally, flowset, name);
     let mut accepted = Vec::new();
     let mut keys = flowset.keys();
     shuffle(random, &mut keys);
@@ -99,6 +109,7 @@ fn with_hand_overs(
         }
         let answer = session.hand_over(&key);
         meet_hand_over(tally, answer);
+        never_stray(tally, &session, name);
         let expected = matches!(answer, Ok(()) | Err(Refusal::Listed | Refusal::HandedFull));
         tally.holds_in(name, "a counted flow", expected);
         if answer.is_ok() {
@@ -125,9 +136,10 @@ fn offer_stranger(tally: &mut Tally, random: &mut Random, session: &mut Session<
 }
 
 fn handed_first(tally: &mut Tally, flowset: &Flowset, accepted: &[KeyBytes], name: &str) -> Session<Marked> {
-    let mut session = open(flowset);
+    let mut session = open(tally, flowset, name);
     for key in accepted {
         tally.equal(name, session.hand_over(key), Ok(()));
+        never_stray(tally, &session, name);
     }
     settle(tally, &mut session, name);
     session

@@ -14,7 +14,7 @@ use crate::selftest::Tally;
 use crate::session::Session;
 use crate::sizes::Sizes;
 
-use super::clean::{known, tell_truth};
+use super::clean::{known, never_stray, tell_truth};
 use super::pair::meet_state;
 use super::sequences::Both;
 
@@ -33,7 +33,11 @@ pub fn clean_exchanges(tally: &mut Tally) {
         let [listed_a, listed_b] = [&after[0], &after[1]].map(listed);
         // A stranger may pass filter and cells; then the promises do not hold.
         let strangers = !listed_a.is_subset(&counted(&a)) || !listed_b.is_subset(&counted(&b));
-        if strangers || exchanged.handed_full > 0 {
+        if strangers {
+            continue;
+        }
+        after.iter().for_each(|session| never_stray(tally, session, &name));
+        if exchanged.handed_full > 0 {
             continue;
         }
         checked += 1;

@@ -99,6 +99,36 @@ pub fn by_hand(tally: &mut Tally) {
     says(tally, "15", &exchange_request(&opened(), &later), &format!("15 {opened_words} {opened_words}"));
 }
 
+/// One thing left over, in the first and in the last cell, first and last byte: beside the counted flow it is stray; short
+/// and stuck go before.
+pub fn strays_by_hand(tally: &mut Tally) {
+    let counted = [(Slice::Counts, 0, "00000001"), (Slice::Flags, 0, "01")];
+    let unknown = in_both_cells(Slice::Unknowns, "0001");
+    let packets = in_both_cells(Slice::Packets, "00000001");
+    let handed = [&packets[..], &unknown, &[(Slice::Flags, 0, "02")]].concat();
+    let marks = [(Slice::Marks, 0, "0000000200002000")];
+    let opened = [&in_both_cells(Slice::Flows, "0001")[..], &packets, &marks].concat();
+    for left in [
+        (Slice::Xors, 0, "01"),
+        (Slice::Xors, 12, "80"),
+        (Slice::Xors, 13 * 47, "ff"),
+        (Slice::Xors, 13 * 47 + 12, "01"),
+        (Slice::Packets, 0, "00000001"),
+        (Slice::Packets, 47, "80000000"),
+    ] {
+        let with = |named: &[(Slice, usize, &'static str)]| words(&[named, &[left]].concat());
+        let report = |listed, words: &str| request_on(REPORT, &lent(HEADER, listed, words));
+        says(tally, "stray", &report(1, &with(&counted)), &format!("0 1 1 0 stray {}", with(&counted)));
+        says(tally, "stray, none listed", &report(0, &with(&[])), &format!("0 0 0 0 stray {}", with(&[])));
+        says(tally, "short and left", &report(1, &with(&handed)), &format!("0 1 0 0 short {}", with(&handed)));
+        says(tally, "stuck and left", &report(0, &with(&opened)), &format!("0 0 0 2 stuck {}", with(&opened)));
+        let settled = request_on(SETTLE, &lent(HEADER, 1, &with(&counted)));
+        says(tally, "settling leaves it", &settled, &format!("0 1 {}", with(&counted)));
+        let opened = request_on(SETTLE, &lent(HEADER, 0, &with(&opened)));
+        says(tally, "settling beside it", &opened, &format!("0 1 {}", with(&counted)));
+    }
+}
+
 /// The second cell is closed before the flow is peeled, or its packets are gone.
 pub fn damaged_by_hand(tally: &mut Tally) {
     let mut empty = opened();

@@ -7,7 +7,7 @@ use crate::key::KeyBytes;
 use crate::marked::Marked;
 use crate::places::Placement;
 use crate::refusal::Refusal;
-use crate::report::Report;
+use crate::report::{Report, State};
 use crate::rescanning::Rescanning;
 use crate::selftest::Tally;
 use crate::table::Cell;
@@ -71,6 +71,17 @@ pub fn meet_hand_over(tally: &mut Tally, answer: Result<(), Refusal>) {
 
 pub fn meet_settle(tally: &mut Tally, answer: Result<(), Damage>) {
     tally.met(answer.map_or_else(|damage| refused_kind("settle", damage.refusal), |()| "settle ok".into()));
+}
+
+/// What listed, counted and open say by themselves.
+pub fn state_of_figures(report: Report) -> State {
+    if report.open > 0 {
+        State::Stuck
+    } else if report.counted < report.listed {
+        State::Short
+    } else {
+        State::Whole
+    }
 }
 
 pub fn meet_state(tally: &mut Tally, report: Report) {

@@ -1,10 +1,15 @@
 //! What the printing program prints, written by hand.
 
+use std::collections::BTreeSet;
+
+use crate::compare_printing::kind;
 use crate::counters::{find_flow, key_of};
+use crate::expected::PRINTED;
 use crate::flow;
+use crate::generate::printing_inputs;
 use crate::image::Header;
 use crate::ipv4::Ipv4;
-use crate::layout::FLOW_COUNT;
+use crate::layout::{FLOW_COUNT, KEY_BYTES, PACKET_COUNT};
 use crate::print::print;
 use crate::selftest::{tcp, Tally, MIDDLE};
 use crate::sizes::Sizes;
@@ -36,6 +41,15 @@ pub fn lines(tally: &mut Tally) {
     tally.equal("two flows", (lines.len(), lines[0]), (3, "7 9 2 2 0 whole"));
     tally.holds("the other", lines.contains(&"255.255.255.255 0 0.0.0.0 0 1 1"));
 
+    // Cell 0 has no flow.
+    two.cell(0)[KEY_BYTES - 1] = 1;
+    tally.equal("a byte left over", printed(&two), text.replace("whole", "stray"));
+    two.cell(0).fill(0);
+    two.cell(0)[PACKET_COUNT.start] = 1;
+    tally.equal("packets left over", printed(&two), text.replace("whole", "stray"));
+    two.cell(0).fill(0);
+    tally.equal("nothing left over", &printed(&two), &text);
+
     two.cell(143)[FLOW_COUNT].fill(0);
     tally.equal("an emptied cell", printed(&two), "refused 14\n".into());
 
@@ -45,4 +59,13 @@ pub fn lines(tally: &mut Tally) {
     let mut twins = Encoder::new(smallest);
     tally.holds("taken", twins.packet(&first.bytes()).is_ok() && twins.packet(&twin.bytes()).is_ok());
     tally.equal("twins", printed(&twins), "7 9 0 0 2 stuck\n".into());
+}
+
+/// Inputs for the printing program meet all that it can print.
+pub fn inputs(tally: &mut Tally) {
+    for seed in 1..=3 {
+        let met: BTreeSet<String> = printing_inputs(seed, 200).iter().map(|input| kind(&print(input))).collect();
+        let missing: Vec<&str> = PRINTED.into_iter().filter(|kind| !met.contains(*kind)).collect();
+        tally.equal("kinds that inputs for printing miss", missing, vec![]);
+    }
 }

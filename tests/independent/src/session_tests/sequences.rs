@@ -34,6 +34,7 @@ pub fn engines_agree(tally: &mut Tally) {
     }
 }
 
+#[derive(Clone)]
 pub struct Both {
     name: String,
     pub marked: Session<Marked>,

@@ -1,6 +1,6 @@
 //! Opening: good images, spoiled ones, and lent room of the wrong length.
 
-use super::tables;
+use super::tables::{self, LEFT, WHICH};
 use crate::flowsets::Flowset;
 use crate::generate::images::Sample;
 use crate::lent::{right_lengths, SLICES};
@@ -12,6 +12,15 @@ use crate::session_request::{Open, OPEN_HEAD};
 pub fn printable(random: &mut Random, turn: usize) -> (u32, Vec<u8>) {
     let Sample { wanted_slot, image, .. } = sample(random, turn);
     (wanted_slot, image)
+}
+
+/// The same of an image that settles with something left over: of four, one is the encoder's own.
+pub fn stray(random: &mut Random, turn: usize) -> (u32, Vec<u8>) {
+    let table = match turn % 4 {
+        0 => tables::overlooked(random),
+        _ => tables::stray(random, WHICH[turn % 3], LEFT[turn / 3 % 3]),
+    };
+    (table.flowset.header().slot, table.flowset.sealed())
 }
 
 /// Of four, two are good, one has one to three faults, and one has a fault by its number.

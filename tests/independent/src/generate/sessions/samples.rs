@@ -1,6 +1,6 @@
 //! Sessions at work: opened from a table's image, with flows handed over and settled.
 
-use super::tables::{self, Spoiled, Table};
+use super::tables::{self, Left, Spoiled, Table, Which};
 use crate::counters::key_of;
 use crate::flow;
 use crate::flowsets::{random_flow, shuffle};
@@ -25,6 +25,10 @@ pub enum Family {
     /// Handed as many as it takes; and then settled.
     Driven,
     Short,
+    /// Settled, with one thing left over.
+    Stray(Which, Left),
+    /// Opened; settling mostly leaves a missed flow's packets over.
+    Overlooked,
     /// Tables that settling may find damaged.
     Missed,
     Damaged,
@@ -50,6 +54,8 @@ impl Sample {
             Family::Worked => Sample::open(tables::clean(random, (5, 150))).worked(random),
             Family::Driven => Sample::open(tables::clean(random, (115, 150))).driven(random),
             Family::Short => Sample::open(tables::clean(random, (102, 120))).driven(random).settled(),
+            Family::Stray(which, left) => Sample::open(tables::stray(random, which, left)).settled(),
+            Family::Overlooked => Sample::open(tables::overlooked(random)),
             Family::Missed => Sample::open(tables::missed(random)),
             Family::Damaged => Sample::open(tables::damaged(random)).worked(random),
             Family::Spoiled(spoiled) => Sample::open(tables::spoiled(random, spoiled)),

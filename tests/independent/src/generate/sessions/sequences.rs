@@ -3,7 +3,7 @@
 use super::faults::{dress, fault_of_turn, faulty};
 use super::longest;
 use super::samples::{stranger, Family, Sample};
-use super::tables::Spoiled;
+use super::tables::{Left, Spoiled, Which};
 use crate::counters::key_of;
 use crate::flowsets::shuffle;
 use crate::key::KeyBytes;
@@ -12,7 +12,8 @@ use crate::random::Random;
 use crate::request::Request;
 use crate::sequence::{sequence_request, Step};
 
-const FAMILIES: [Family; 9] = [
+/// Their number has no factor in common with ten, so that every family has its turn.
+const FAMILIES: [Family; 11] = [
     Family::Light,
     Family::Heavy,
     Family::Worked,
@@ -22,6 +23,8 @@ const FAMILIES: [Family; 9] = [
     Family::Spoiled(Spoiled::CountOver),
     Family::Twice,
     Family::Settled,
+    Family::Overlooked,
+    Family::Stray(Which::Middle, Left::LastByte),
 ];
 
 /// Of ten, one has a list as long as it gets, one is no session, one has room for one hand-over only, one has steps that

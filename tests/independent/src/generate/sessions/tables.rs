@@ -1,4 +1,5 @@
-//! Flowsets for sessions: clean, with flows that the filter missed, or spoiled before they are sealed.
+//! Flowsets for sessions: clean, with flows that the filter missed, with something left over, or spoiled before they are
+//! sealed.
 
 use std::collections::BTreeMap;
 
@@ -11,7 +12,9 @@ use crate::image::Header;
 use crate::ipv4::Ipv4;
 use crate::key::KeyBytes;
 use crate::layout::{FLOW_COUNT, KEY_BYTES, PACKET_COUNT};
+use crate::marked::Marked;
 use crate::random::Random;
+use crate::session::Session;
 use crate::sizes::Sizes;
 use crate::table::Cell;
 use crate::working::Encoder;
@@ -24,6 +27,26 @@ pub enum Spoiled {
     CountZero,
     CountOver,
 }
+
+/// Which cell; a middle one is any but the first and the last.
+#[derive(Clone, Copy)]
+pub enum Which {
+    First,
+    Middle,
+    Last,
+}
+
+pub const WHICH: [Which; 3] = [Which::First, Which::Middle, Which::Last];
+
+/// What is left over: a byte of FlowXOR, or packets.
+#[derive(Clone, Copy)]
+pub enum Left {
+    FirstByte,
+    LastByte,
+    Packets,
+}
+
+pub const LEFT: [Left; 3] = [Left::FirstByte, Left::LastByte, Left::Packets];
 
 /// A flowset with its flows, some of which the filter may have missed.
 pub struct Table {
@@ -90,6 +113,52 @@ pub fn missed(random: &mut Random) -> Table {
         encoder.filter[byte] |= 1 << random.below(8);
     }
     Table { flowset: encode_into(random, encoder, &flows), flows }
+}
+
+/// One filter hash: a flow is missed, settling finds all others, and its packets are mostly left over.
+pub fn overlooked(random: &mut Random) -> Table {
+    loop {
+        let header = header(random);
+        let header = Header { sizes: Sizes { kf: 1, f: 1, ..header.sizes }, ..header };
+        let flows = flows_for(random, header, (25, 60));
+        let flowset = encode(random, header, &flows);
+        if !flowset.clean && leaves_none_open(&flowset) {
+            return Table { flowset, flows };
+        }
+    }
+}
+
+/// Settling finds all flows, and one thing is left over in a cell that none of them has.
+pub fn stray(random: &mut Random, which: Which, left: Left) -> Table {
+    loop {
+        let mut table = clean(random, (0, 30));
+        let last = table.flowset.header().sizes.cells() - 1;
+        let number = match which {
+            Which::First => 0,
+            Which::Middle => random.between(1, last - 1),
+            Which::Last => last,
+        };
+        let is_empty = cell(&mut table.flowset.encoder, number) == Cell::default();
+        if table.flowset.clean && is_empty && leaves_none_open(&table.flowset) {
+            leave(random, table.flowset.encoder.cell(number), left);
+            return table;
+        }
+    }
+}
+
+fn leave(random: &mut Random, cell: &mut [u8], left: Left) {
+    let any = random.u32() | 1;
+    match left {
+        Left::FirstByte => cell[0] = random.pick(&[1, 0x80, any as u8]),
+        Left::LastByte => cell[KEY_BYTES - 1] = random.pick(&[1, 0x80, any as u8]),
+        Left::Packets => put_u32(cell, PACKET_COUNT.start, random.pick(&[1, 1 << 8, 1 << 16, 1 << 24, u32::MAX, any])),
+    }
+}
+
+/// Whether settling does so, without a 14.
+fn leaves_none_open(flowset: &Flowset) -> bool {
+    let mut session = Session::<Marked>::open(&flowset.sealed(), flowset.header().slot).expect("a sealed image");
+    session.settle() == Ok(Ok(())) && session.engine.table.open_cells() == 0
 }
 
 /// Any wrong bytes in some cells; the filter may pass all.
