@@ -1,20 +1,20 @@
 -- The report counts the list and the cells that stand there; what whole means.
 use mathlib.Core.Path.{_≡_, sym, ap, ap₂, subst, _∙_}
-use mathlib.Core.Bool.{Bool, true, false, not, _&&_}
+use mathlib.Core.Bool.{Bool, true, not, _&&_}
 use mathlib.Core.List.{List}
 use mathlib.Core.Logic.{inl, inr}
 use Prim.Native.Nat.{ℕ, _-_, _*_}
 use native.Mathlib.Omega.{arith}
-use borrow.Author.Tests.{eq-eqb, lt-ltb, le-ltb, ltb-false}
+use borrow.Author.Tests.{eq-eqb, lt-ltb, le-ltb}
 use lib.Dec.{eqb, ltb}
 use lib.ListN.{length, getD, take, drop, replicate}
 use Rattle.laws.specs.Upto.{allUpto}
 use Rattle.laws.specs.Zeros.{allZero}
-use Rattle.laws.proofs.Bools.{split, and-l, and-r, and-i}
+use Rattle.laws.proofs.Bools.{split, and-l, and-r}
 use Rattle.laws.proofs.Lists.{zero-at}
-use Rattle.laws.proofs.Upto.{length-list, all-yes, all-same}
-use Rattle.laws.proofs.Lowest.{number-rest, number-max, number-some, number-none}
-use Rattle.laws.proofs.Zeros.{zero-list, list-zero, zero-rows, all-both}
+use Rattle.laws.proofs.Upto.{length-list, all-yes, all-same, all-both}
+use Rattle.laws.proofs.Lowest.{number-rest, number-max, number-zero, number-none}
+use Rattle.laws.proofs.Zeros.{zero-is, zeros-zero, zero-rows}
 use Rattle.layout.specs.declared.Layout.{Layout}
 use Rattle.layout.specs.Sizes.{tableCells}
 use Rattle.list.specs.Records.{Records, keyAt, isKnown}
@@ -30,6 +30,7 @@ use Rattle.session.proofs.Laws.{report-passes, told-is}
 use Rattle.session.specs.declared.Reported.the-variants.{Told}
 use Rattle.theory.specs.Session.{keysWhere, unknownsOf, openCells}
 use Rattle.theory.specs.Report as theory
+use Rattle.theory.proofs.Whole.{whole-only}
 use Rattle.link.specs.View.{recordAt, recordsOf, below, cellsOf}
 use Rattle.link.proofs.Given.{where-number}
 use Rattle.link.proofs.Test8.{open-is}
@@ -98,27 +99,13 @@ module _ (l : Layout) (v : Live) (p : Passing l v) where
 -- ---- what whole means
 flows-zero : (flows : List ℕ) → openIn (length flows) flows ≡ 0 → allZero flows ≡ true
 unfolding openIn allZero
-flows-zero flows e = all-yes (length flows) (λ c. eqb (getD flows c 0) 0) (λ c h. eq-eqb (getD flows c 0) 0 (elim (split (ltb 0 (getD flows c 0))) [
-  | inl a ↦ absurd (omega (arith, e, number-some (length flows) (λ j. ltb 0 (getD flows j 0)) c h a))
-  | inr a ↦ omega (arith, ltb-false 0 (getD flows c 0) a)
-]))
+flows-zero flows e = all-yes (length flows) (λ c. eqb (getD flows c 0) 0)
+    (λ c h. eq-eqb (getD flows c 0) 0 (number-zero (length flows) (λ i. getD flows i 0) e c h))
 
 zero-open : (flows : List ℕ) → flows ≡ replicate (length flows) 0 → openIn (length flows) flows ≡ 0
 unfolding openIn
 zero-open flows e = number-none (length flows) (λ c. ltb 0 (getD flows c 0))
     (λ c h. le-ltb 0 (getD flows c 0) (omega (arith, ap (λ s. getD s c 0) e ∙ zero-at (length flows) c)))
-
-whole-only : (opens unknown : ℕ) (nothing : Bool) → stateOf opens unknown nothing ≡ Whole → (opens ≡ 0) × (unknown ≡ 0) × (nothing ≡ true)
-whole-only opens unknown nothing z = elim (split (ltb 0 opens)) [
-  | inl a ↦ absurd (let h = rw a at z in let q : _≡_ {A = ℕ} 0 1 = cc in omega arith)
-  | inr a ↦ elim (split (ltb 0 unknown)) [
-    | inl b ↦ absurd (let h = rw (a, b) at z in let q : _≡_ {A = ℕ} 0 1 = cc in omega arith)
-    | inr b ↦ elim (split nothing) [
-      | inr d ↦ absurd (let h = rw (a, b, d) at z in let q : _≡_ {A = ℕ} 0 1 = cc in omega arith)
-      | inl d ↦ (omega (arith, ltb-false 0 opens a), omega (arith, ltb-false 0 unknown b), d)
-    ]
-  ]
-]
 
 -- a report says whole just where the cells are all zero and every listed flow has its count
 abbrev Whole-says : Memory → Report → Type 0
@@ -130,21 +117,24 @@ whole-in n m =
     let xors = m .table .xors in
     let flows = m .table .flows in
     let packets = m .packets in
+    let opens = openIn (length flows) flows in
+    let unknown = n - countedIn n (m .list .flags) in
+    let nothing = nothingLeft xors packets in
     let known = number-max n (λ i. flagSet 0 (getD (m .list .flags) i 0)) in (
       λ z.
-          let w = whole-only (openIn (length flows) flows) (n - countedIn n (m .list .flags)) (nothingLeft xors packets) z in (
+          let w = whole-only opens unknown nothing (sym (state-is opens unknown nothing) ∙ ap stateAs z) in (
             record {
-              xors = zero-list xors (and-l (allZero xors) (allZero packets) (w .2));
-              flows = zero-list flows (flows-zero flows (w .0));
-              packets = zero-list packets (and-r (allZero xors) (allZero packets) (w .2));
+              xors = zero-is xors (and-l (allZero xors) (allZero packets) (w .2));
+              flows = zero-is flows (flows-zero flows (w .0));
+              packets = zero-is packets (and-r (allZero xors) (allZero packets) (w .2));
             },
             omega (arith, w .1, known),
           ),
       λ zero counted. rw (
         zero-open flows (zero .flows),
-        le-ltb 0 (n - countedIn n (m .list .flags)) (omega (arith, counted)),
-        list-zero xors (zero .xors),
-        list-zero packets (zero .packets),
+        le-ltb 0 unknown (omega (arith, counted)),
+        ap allZero (zero .xors) ∙ zeros-zero (length xors),
+        ap allZero (zero .packets) ∙ zeros-zero (length packets),
       ),
     )
 

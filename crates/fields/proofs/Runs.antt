@@ -1,21 +1,17 @@
 -- Runs of bytes, one byte at a time.
 use mathlib.Core.Path.{_≡_, refl, sym, ap, _∙_}
-use mathlib.Core.Bool.{true}
 use mathlib.Core.List.{List, [], _∷_, _++_, append-nil}
 use Prim.Native.Nat.{ℕ, zero, suc, _+_, _<_, _≤_}
 use native.Mathlib.Nat.{le-of-suc-le-suc}
 use native.Mathlib.Numerals.{add-one}
 use native.Mathlib.Omega.{arith}
 use lib.Bits.{bitXor}
-use lib.Dec.{eqb}
-use lib.ListN.{length, getD, set, take, drop, replicate, length-set, length-replicate, getD-replicate, drop-of-length-le}
-use lib.Seq.{ext-getD, take-all}
-use borrow.Author.Tests.{eqb-true}
+use lib.ListN.{length, getD, set, take, drop, replicate, length-set, drop-of-length-le}
+use lib.Seq.{take-all}
 use Rattle.laws.specs.Xor.{xorBytes}
 use Rattle.laws.proofs.Lists.{length-part, lent-sets}
-use Rattle.laws.proofs.Upto.{all-at, all-yes}
 use Rattle.laws.proofs.Xor.{xorBytes-length}
-use Rattle.fields.specs.Field.{xoredAt, allZero}
+use Rattle.fields.specs.Field.{xoredAt}
 
 -- the first k bytes of s XORed with those of key, the rest as it was: what the loop holds after k turns
 unfoldable pub xorUpto : ℕ → List ℕ → List ℕ → List ℕ
@@ -72,16 +68,3 @@ pub cleared-all : (s₀ : List ℕ) {s : List ℕ} {i : ℕ} → length s₀ ≤
 cleared-all s₀ {s} {i} h c =
     let e : i ≡ length s₀ = omega (arith, c .1) in
     c .2 ∙ rw (drop-of-length-le s₀ h, e) (append-nil (replicate (length s₀) 0))
-
--- zero bytes are zeros
-pub zero-is : (s : List ℕ) → allZero s ≡ true → s ≡ replicate (length s) 0
-unfolding allZero
-zero-is s h =
-    ext-getD 0 s (replicate (length s) 0) (sym (length-replicate (length s) 0))
-    (λ i l. eqb-true (getD s i 0) 0 (all-at (length s) (λ j. eqb (getD s j 0) 0) h i l) ∙ sym (getD-replicate (length s) i 0 0 l))
-
-pub zeros-zero : (n : ℕ) → allZero (replicate n 0) ≡ true
-unfolding allZero
-zeros-zero n =
-    all-yes (length (replicate n 0)) (λ i. eqb (getD (replicate n 0) i 0) 0)
-    (λ i l. ap (λ x. eqb x 0) (getD-replicate n i 0 0 (rw (length-replicate {A = ℕ} n 0) at l)))

@@ -1,12 +1,9 @@
 -- Fields of byte lists: 01 'Blocks of 512 bytes', "Numbers are high byte first".
-use mathlib.Core.Bool.{Bool}
 use mathlib.Core.List.{List}
 use Prim.Native.Nat.{ℕ}
-use lib.Dec.{eqb}
-use lib.ListN.{length, getD, take, drop}
+use lib.ListN.{length, take, drop}
 use lib.Seq.{sets}
 use Rattle.laws.specs.BigEndian.{bytesOf, numberOf}
-use Rattle.laws.specs.Upto.{allUpto}
 use Rattle.laws.specs.Xor.{xorBytes}
 
 -- the number in the n bytes from place `at` on
@@ -20,7 +17,3 @@ withField n s at x = sets s at (bytesOf n x)
 -- the list with a run of bytes XORed into those from place `at` on
 unfoldable pub xoredAt : List ℕ → ℕ → List ℕ → List ℕ
 xoredAt s at bytes = sets s at (xorBytes (take (length bytes) (drop at s)) bytes)
-
--- every byte is zero
-unfoldable pub allZero : List ℕ → Bool
-allZero s = allUpto (length s) (λ i. eqb (getD s i 0) 0)

@@ -3,7 +3,8 @@ ghost use mathlib.Core.Path.{_≡_};
 ghost use Prim.Native.Nat.{_+_, _≤_};
 ghost use lib.ListN.{length, take, replicate};
 ghost use Rattle.laws.specs.Xor.{xorBytes};
-ghost use Rattle.fields.specs.Field.{field, withField, xoredAt, allZero};
+ghost use Rattle.laws.specs.Zeros.{allZero};
+ghost use Rattle.fields.specs.Field.{field, withField, xoredAt};
 
 // The number in the 2 bytes from place `at` on.
 pub fn short_at(s: &[u8], at: usize) -> u16
@@ -85,16 +86,15 @@ pub fn clear(s: &mut [u8])
     }
 }
 
-// Whether every byte is zero.
+// Whether every byte is zero. They are ORed together: a way out at the first other one would cost a branch for each.
 pub fn is_zero(s: &[u8]) -> bool
     ensures { λ r. ⌜ r ≡ allZero (now (s .entry)) ⌝ }
 {
+    let mut any = 0;
     let mut i = 0;
     while i < s.len() {
-        if s[i] != 0 {
-            return false;
-        }
+        any = any | s[i];
         i += 1;
     }
-    true
+    any == 0
 }

@@ -9,7 +9,8 @@ use lib.ListN.{getD, take, drop}
 use Rattle.laws.proofs.Bools.{and-l, and-r}
 use Rattle.layout.specs.declared.Layout.{Layout}
 use Rattle.layout.specs.declared.Sizes.{Sizes}
-use Rattle.fields.specs.Field.{field, allZero}
+use Rattle.laws.specs.Zeros.{allZero}
+use Rattle.fields.specs.Field.{field}
 use Rattle.form.specs.Form.{sizesIn, sameSizes, kindOf, cellsFormed, formed}
 
 pub record Formed (l : Layout) (z : Sizes) (n : ℕ) (b : List ℕ) : Type 0 where

@@ -6,7 +6,8 @@ use lib.Dec.{eqb, ltb}
 use lib.ListN.{getD, take, drop}
 use Rattle.layout.specs.declared.Layout.{Layout}
 use Rattle.layout.specs.declared.Sizes.{Sizes}
-use Rattle.fields.specs.Field.{field, allZero}
+use Rattle.laws.specs.Zeros.{allZero}
+use Rattle.fields.specs.Field.{field}
 use Rattle.block.specs.Block.{zeroBytes}
 
 -- 01 'Blocks of 512 bytes': "1 kf, 2 F, 3 k, 4 q": the sizes that a block names

@@ -19,7 +19,7 @@ use Rattle.layout.specs.declared.Layout.{Layout}
 use Rattle.layout.specs.declared.Sizes.{Sizes}
 use Rattle.layout.specs.Sizes.{Lays, tableCells, filterBytes, blocks}
 use Rattle.layout.proofs.Ranges.{blocks-high}
-use Rattle.fields.specs.Field.{allZero}
+use Rattle.laws.specs.Zeros.{allZero}
 use Rattle.reading.specs.declared.Reading.the-variants.{Image}
 use Rattle.block.specs.Block.{block, padded, blockOf, imageOf, zeroBytes, blockAt}
 use Rattle.sealing.specs.Seal.{Sealable}
@@ -31,7 +31,7 @@ use Rattle.form.proofs.Form.{Formed, is-formed, form-facts}
 use Rattle.image.proofs.OneBlock.{block-only, kind-back, sizes-back, five-back, number-back, salt-back, slot-back, payload-back, end-back, check-back}
 use Rattle.reading.proofs.Accepts.{Passes, Accepted, accepts}
 use Rattle.image.proofs.Rows.{padded-back, padded-only, zero-take, cells-back, zero-blocks}
-use Rattle.fields.proofs.Runs.{zeros-zero}
+use Rattle.laws.proofs.Zeros.{zeros-zero}
 use Rattle.laws.proofs.Rows.{join-same, length-join, join-part, join-add, row-long, join-whole}
 
 -- ---- the image, block by block, whatever the kind

@@ -11,8 +11,9 @@ use Rattle.laws.specs.BigEndian.{bytesOf, Bytes}
 use Rattle.laws.proofs.BigEndian.{length-bytes, number-bytes, part-bytes}
 use Rattle.laws.proofs.Lists.{part-cons, length-part, part-parts}
 use Rattle.layout.specs.declared.Sizes.{Sizes}
-use Rattle.fields.specs.Field.{field, allZero}
-use Rattle.fields.proofs.Runs.{zero-is}
+use Rattle.laws.specs.Zeros.{allZero}
+use Rattle.fields.specs.Field.{field}
+use Rattle.laws.proofs.Zeros.{zero-is}
 use Rattle.hash.specs.Fnv.{fnv, basis}
 use Rattle.hash.proofs.Chain.{absorb-lt}
 use Rattle.block.specs.Block.{header, unchecked, checked, block}

@@ -13,8 +13,8 @@ use Rattle.laws.proofs.Upto.{all-same}
 use Rattle.layout.specs.declared.Layout.{Layout}
 use Rattle.layout.specs.declared.Sizes.{Sizes}
 use Rattle.layout.specs.Sizes.{Lays, tableCells}
-use Rattle.fields.specs.Field.{allZero}
-use Rattle.fields.proofs.Runs.{zero-is, zeros-zero}
+use Rattle.laws.specs.Zeros.{allZero}
+use Rattle.laws.proofs.Zeros.{zero-is, zeros-zero}
 use Rattle.block.specs.Block.{padded, zeroBytes}
 use Rattle.form.specs.Form.{cellsFormed}
 use Rattle.block.proofs.Cells.{table-rows, byte-place}

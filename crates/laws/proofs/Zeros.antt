@@ -35,14 +35,10 @@ unfolding allZero
 zero-end s any e f g = g ∙ f ∙ ap (λ n. allUpto n (λ j. eqb (getD s j 0) 0)) e
 
 -- such a list is zeros, and zeros are such a list
-pub zero-list : (s : List ℕ) → allZero s ≡ true → s ≡ replicate (length s) 0
+pub zero-is : (s : List ℕ) → allZero s ≡ true → s ≡ replicate (length s) 0
 unfolding allZero
-zero-list s e = ext-getD 0 s (replicate (length s) 0) (sym (length-replicate (length s) 0))
+zero-is s e = ext-getD 0 s (replicate (length s) 0) (sym (length-replicate (length s) 0))
     (λ i h. eqb-true (getD s i 0) 0 (all-at (length s) (λ j. eqb (getD s j 0) 0) e i h) ∙ sym (zero-at (length s) i))
-
-pub list-zero : (s : List ℕ) → s ≡ replicate (length s) 0 → allZero s ≡ true
-unfolding allZero
-list-zero s e = all-yes (length s) (λ j. eqb (getD s j 0) 0) (λ i h. eq-eqb (getD s i 0) 0 (ap (λ t. getD t i 0) e ∙ zero-at (length s) i))
 
 pub zeros-zero : (n : ℕ) → allZero (replicate n 0) ≡ true
 unfolding allZero
@@ -59,12 +55,3 @@ zero-rows n w s e =
     all-same w (λ j. eqb (getD s (c * w + j) 0) 0) (λ j. eqb (getD (take w (drop (c * w) s)) j 0) 0)
     (λ j q. ap (λ x. eqb x 0) (sym (part-at s (c * w) w j 0 q)))
     ∙ ap (λ m. allUpto m (λ j. eqb (getD (take w (drop (c * w) s)) j 0) 0)) (sym long))
-
--- two questions asked of every index below n
-pub all-both : (n : ℕ) (p q : ℕ → Bool) → allUpto n (λ i. p i && q i) ≡ (allUpto n p && allUpto n q)
-all-both n p q = iff (allUpto n (λ i. p i && q i)) (allUpto n p && allUpto n q)
-    (λ e. and-i (allUpto n p) (allUpto n q)
-    (all-yes n p (λ i h. and-l (p i) (q i) (all-at n (λ j. p j && q j) e i h)))
-    (all-yes n q (λ i h. and-r (p i) (q i) (all-at n (λ j. p j && q j) e i h))))
-    (λ e. all-yes n (λ i. p i && q i) (λ i h. and-i (p i) (q i)
-    (all-at n p (and-l (allUpto n p) (allUpto n q) e) i h) (all-at n q (and-r (allUpto n p) (allUpto n q) e) i h)))

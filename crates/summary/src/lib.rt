@@ -1,5 +1,5 @@
 // The report of a session: what is listed, counted and open, worked out anew from list and cells, and the state that they and what is left make.
-// It rests on test8, which counts flags and open cells.
+// It rests on test8, which counts flags and open cells, and on fields for FlowXOR.
 ghost use mathlib.Core.Path.{_≡_};
 ghost use Prim.Native.Nat.{_≤_};
 ghost use lib.ListN.{length};
@@ -21,19 +21,7 @@ pub struct Report {
     pub state: State,
 }
 
-// Whether all are 0. They are ORed together: a way out at the first other one would cost a branch for each.
-fn no_key(xors: &[u8]) -> bool
-    ensures { λ r. ⌜ r ≡ allZero (now (xors .entry)) ⌝ }
-{
-    let mut any = 0;
-    let mut i = 0;
-    while i < xors.len() {
-        any = any | xors[i];
-        i += 1;
-    }
-    any == 0
-}
-
+// Whether every PacketCount is zero; as `fields::is_zero` asks it of bytes.
 fn no_packet(packets: &[u32]) -> bool
     ensures { λ r. ⌜ r ≡ allZero (now (packets .entry)) ⌝ }
 {
@@ -50,15 +38,15 @@ fn no_packet(packets: &[u32]) -> bool
 fn nothing_left(xors: &[u8], packets: &[u32]) -> bool
     ensures { λ r. ⌜ r ≡ nothingLeft (now (xors .entry)) (now (packets .entry)) ⌝ }
 {
-    if !no_key(xors) {
+    if !fields::is_zero(xors) {
         return false;
     }
     no_packet(packets)
 }
 
-// The state that open cells, unknown counts and what is left make.
-fn state_of(opens: usize, unknown: usize, nothing: bool) -> State
-    ensures { λ r. ⌜ r ≡ stateOf opens unknown nothing ⌝ }
+// The state that open cells, unknown counts and what is left make. Only where it decides are the cells asked what is left.
+fn state_of(opens: usize, unknown: usize, xors: &[u8], packets: &[u32]) -> State
+    ensures { λ r. ⌜ r ≡ stateOf opens unknown (nothingLeft (now (xors .entry)) (now (packets .entry))) ⌝ }
 {
     if opens > 0 {
         return State::Stuck;
@@ -66,7 +54,10 @@ fn state_of(opens: usize, unknown: usize, nothing: bool) -> State
     if unknown > 0 {
         return State::Short;
     }
-    if nothing { State::Whole } else { State::Stray }
+    if nothing_left(xors, packets) {
+        return State::Whole;
+    }
+    State::Stray
 }
 
 // The report where n flows are listed: of their flags and of every cell's FlowXOR, FlowCount and PacketCount.
@@ -76,11 +67,10 @@ pub fn report_of(n: usize, xors: &[u8], flows: &[u16], packets: &[u32], flags: &
 {
     let counted = test8::flagged_in(n, test8::KNOWN, flags);
     let opens = test8::open_in(flows);
-    let nothing = nothing_left(xors, packets);
     Report {
         listed: n,
         counted,
         opens,
-        state: state_of(opens, n - counted, nothing),
+        state: state_of(opens, n - counted, xors, packets),
     }
 }

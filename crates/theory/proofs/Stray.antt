@@ -16,7 +16,7 @@ use Rattle.laws.proofs.Bools.{split, and-i, and-t}
 use Rattle.laws.proofs.Upto.{all-yes}
 use Rattle.laws.proofs.Zeros.{zeros-zero}
 use Rattle.theory.specs.Encode.{Key, sameKey, sumOver, total, count, Placement, Taken, emptyTable, takeInCell, takePacket, takePackets, encodeCell}
-use Rattle.theory.specs.Session.{Session, opened, keysWhere, unknownsOf, listed, counted, openCells, pure, ready, afterStep, repeat, peel, countStep, thenCounts, settle}
+use Rattle.theory.specs.Session.{Session, opened, keysWhere, unknownsOf, listed, counted, openCells, pure, ready, settled, Result, afterStep, repeat, peel, countStep, thenCounts, settle}
 use Rattle.theory.specs.Report.{stray, whole, nothingLeft, stateBefore, Report, reportWith, report, reportBefore}
 use Rattle.theory.specs.Demands.{keep, Truthful, Shown, Demand2}
 use Rattle.theory.specs.Cases.{a, placedWith}
@@ -101,11 +101,12 @@ module _ (size keyLength : ℕ) (has : Placement) (F : List Key) (packets : Key 
 abbrev missed : List Taken
 missed = record { key = a; new = false } ∷ []
 
-abbrev settledMissed : Session
-settledMissed = settle 4 (placedWith 3) (opened (takePackets (placedWith 3) missed (emptyTable 13))) .state
+abbrev settledMissed : Result Session
+settledMissed = settle 4 (placedWith 3) (opened (takePackets (placedWith 3) missed (emptyTable 13)))
 
--- Theorem: a missed flow alone: settled, the report says stray; without 02 b it said whole
-pub missed-stray : (report 4 settledMissed .state ≡ stray) × (reportBefore 4 settledMissed .state ≡ whole)
+-- Theorem: a missed flow alone: settling ends well, and the report says stray; without 02 b it said whole
+pub missed-stray : (settledMissed .stop ≡ settled) × (report 4 (settledMissed .state) .state ≡ stray)
+    × (reportBefore 4 (settledMissed .state) .state ≡ whole)
 unfolding anyUpto allUpto numberUpto allZero keysWhere openCells pure ready afterStep repeat peel countStep thenCounts settle
     emptyTable takeInCell takePacket takePackets placedWith sameKey nothingLeft report reportBefore
-missed-stray = (refl, refl)
+missed-stray = (refl, refl, refl)

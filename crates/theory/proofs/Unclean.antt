@@ -14,7 +14,7 @@ use Prim.Native.Nat.{ℕ}
 abbrev strayWith : (x y : ℕ) → End
 strayWith x y = record { stop = settled; keys = (x ∷ []) ∷ (y ∷ []) ∷ []; state = stray }
 
--- settle, hand 2, settle lists 1 and 2; handing 2 first lists 2 and 6: both report stray, and whole without 02 b
+-- settle, hand 2, settle lists 1 and 2; handing 2 first lists 2 and 6: both report stray
 pub order-matters : (ends (settling ∷ hand (2 ∷ []) ∷ []) ≡ strayWith 1 2) × (ends (hand (2 ∷ []) ∷ []) ≡ strayWith 2 6)
 unfolding xorBytes anyUpto allUpto allZero lowest numberUpto sameKey among sumOver
     keysOf keysWhere pure ready first hasEmptyCell openCells takeOut withCount setCount

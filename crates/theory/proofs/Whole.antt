@@ -1,7 +1,7 @@
 -- A session of a flowset that reports whole lists every flow with its packets; so no other collection of flows encodes to the same cells.
 use mathlib.Core.Path.{_≡_, refl, sym, ap, _∙_, subst}
 use mathlib.Core.Logic.{inl, inr}
-use mathlib.Core.Bool.{true, false}
+use mathlib.Core.Bool.{Bool, true, false}
 use mathlib.Core.List.{List, [], _∷_}
 use mathlib.Core.Option.{some}
 use Prim.Native.Nat.{ℕ, _<_}
@@ -14,21 +14,18 @@ use Rattle.theory.specs.Encode.{Key, among, Table}
 use Rattle.theory.specs.Session.{Record, Session, unknownsOf, listed, unknown, counted, countOf, openCells}
 use Rattle.theory.specs.HandOver.{Switch, Call, calls}
 use Rattle.theory.specs.Invariant.{Counted, received, Holds}
-use Rattle.theory.specs.Report.{whole, nothingLeft, report}
+use Rattle.theory.specs.Report.{whole, nothingLeft, stateOf, report}
 use Rattle.theory.specs.Demands.{HandedCounted}
 use Rattle.theory.proofs.Records.{counts-said}
 use Rattle.theory.proofs.Single.{zero-listed}
 use Rattle.theory.proofs.Demands.{stands-received, stands-calls, stands-holds}
 use borrow.Author.Tests.{ltb-false}
-use Rattle.laws.proofs.Lowest.{number-some}
+use Rattle.laws.proofs.Lowest.{number-zero}
 
 -- where no cell is open, every FlowCount is 0
 pub none-open : (n : ℕ) (t : Table) → openCells n t ≡ 0 → (c : ℕ) → c < n → t c .flowCount ≡ 0
 unfolding openCells
-none-open n t e c l = elim (split (ltb 0 (t c .flowCount))) [
-  | inl a ↦ absurd (omega (arith, e, number-some n (λ j. ltb 0 (t j .flowCount)) c l a))
-  | inr a ↦ omega (arith, ltb-false 0 (t c .flowCount) a)
-]
+none-open n t = number-zero n (λ c. t c .flowCount)
 
 -- where no count is unknown, none of a key is
 pub none-unknown : (list : List Record) → length (unknownsOf list) ≡ 0 → (k : Key) → among k (unknownsOf list) ≡ false
@@ -38,20 +35,23 @@ none-unknown list e k = go (unknownsOf list) e
     go [] e = unfold among in refl
     go (x ∷ l) e = absurd (omega arith)
 
-module _ (n : ℕ) (s : Session) (z : report n s .state ≡ whole) where
-  -- whole: no cell is open, no count is unknown, and nothing is left
-  whole-says : (openCells n (s .cells) ≡ 0) × (length (unknownsOf (s .list)) ≡ 0) × (nothingLeft n (s .cells) ≡ true)
-  unfolding report
-  whole-says = elim (split (ltb 0 (openCells n (s .cells)))) [
-    | inl a ↦ absurd (let h = rw a at z in let q : _≡_ {A = ℕ} 0 1 = cc in omega arith)
-    | inr a ↦ elim (split (ltb 0 (length (unknownsOf (s .list))))) [
-      | inl b ↦ absurd (let h = rw (a, b) at z in let q : _≡_ {A = ℕ} 0 1 = cc in omega arith)
-      | inr b ↦ elim (split (nothingLeft n (s .cells))) [
-        | inr d ↦ absurd (let h = rw (a, b, d) at z in let q : _≡_ {A = ℕ} 0 1 = cc in omega arith)
-        | inl d ↦ (omega (arith, ltb-false 0 (openCells n (s .cells)) a), omega (arith, ltb-false 0 (length (unknownsOf (s .list))) b), d)
-      ]
+-- whole: no cell is open, no count is unknown, and nothing is left
+pub whole-only : (opens unknowns : ℕ) (nothing : Bool) → stateOf opens unknowns nothing ≡ whole → (opens ≡ 0) × (unknowns ≡ 0) × (nothing ≡ true)
+whole-only opens unknowns nothing z = elim (split (ltb 0 opens)) [
+  | inl a ↦ absurd (let h = rw a at z in let q : _≡_ {A = ℕ} 0 1 = cc in omega arith)
+  | inr a ↦ elim (split (ltb 0 unknowns)) [
+    | inl b ↦ absurd (let h = rw (a, b) at z in let q : _≡_ {A = ℕ} 0 1 = cc in omega arith)
+    | inr b ↦ elim (split nothing) [
+      | inr d ↦ absurd (let h = rw (a, b, d) at z in let q : _≡_ {A = ℕ} 0 1 = cc in omega arith)
+      | inl d ↦ (omega (arith, ltb-false 0 opens a), omega (arith, ltb-false 0 unknowns b), d)
     ]
   ]
+]
+
+module _ (n : ℕ) (s : Session) (z : report n s .state ≡ whole) where
+  whole-says : (openCells n (s .cells) ≡ 0) × (length (unknownsOf (s .list)) ≡ 0) × (nothingLeft n (s .cells) ≡ true)
+  unfolding report
+  whole-says = whole-only (openCells n (s .cells)) (length (unknownsOf (s .list))) (nothingLeft n (s .cells)) z
 
   whole-zero : (c : ℕ) → c < n → s .cells c .flowCount ≡ 0
   whole-zero = none-open n (s .cells) (whole-says .0)

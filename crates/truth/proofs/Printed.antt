@@ -10,7 +10,7 @@ use lib.Dec.{ltb}
 use lib.ListN.{length, replicate, length-replicate}
 use Rattle.laws.specs.BigEndian.{bytesOf}
 use Rattle.laws.proofs.Bools.{split, clash}
-use Rattle.laws.proofs.Lowest.{number-same, number-some}
+use Rattle.laws.proofs.Lowest.{number-same, number-zero}
 use Rattle.laws.proofs.Upto.{any-some}
 use Rattle.layout.specs.declared.Layout.{Layout}
 use Rattle.layout.specs.declared.Sizes.{Sizes}
@@ -232,11 +232,8 @@ module _ (z : Sizes) (salt slot : ℕ) (salt-fits : salt < 2 ^ 32) (slot-fits : 
       let left : ℕ → ℕ = λ a. count (λ x. hasCell l z salt x a) (keep (λ x. not (among x flows)) F) in
       elim (split (among k flows)) [
         | inl h ↦ h
-        | inr h ↦ elim (split (ltb 0 (left (c .0)))) [
-          | inl t ↦ absurd (omega (arith, number-some (tableCells l z) (λ a. ltb 0 (left a)) (c .0) (c .1) t, none))
-          | inr t ↦ absurd (keep-none (λ x. hasCell l z salt x (c .0)) (λ x. not (among x flows)) F (omega (arith, ltb-false 0 (left (c .0)) t))
-              k member (c .2) (ap not h))
-        ]
+        | inr h ↦ absurd (keep-none (λ x. hasCell l z salt x (c .0)) (λ x. not (among x flows)) F
+            (number-zero (tableCells l z) left none (c .0) (c .1)) k member (c .2) (ap not h))
       ]
 
   prints-run : Prints z salt slot taken (printed (bytesOf 4 slot ++ image))

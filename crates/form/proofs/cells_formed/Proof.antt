@@ -4,7 +4,7 @@ use Prim.Native.Nat.{_-_, _*_}
 use lib.ListN.{length}
 use native.Mathlib.Omega.{arith}
 use Rattle.laws.proofs.BigEndian.{part-end}
-use Rattle.fields.specs.Field.{allZero}
+use Rattle.laws.specs.Zeros.{allZero}
 use Rattle.form.specs.Form.{cellsFormed}
 use borrow.Author.Needs.{needs}
 use Rattle.form.proofs.cells_formed.Statement.{statement}

@@ -5,19 +5,19 @@ use Rattle.summary.specs.Report.{nothingLeft}
 use Rattle.summary.proofs.nothing_left.Statement.{statement}
 use Rattle.summary.proofs.nothing_left.Tie as tie
 
-no-key-requires : tie.Need-no-key-requires
-no-key-requires c κs = search needs
+is-zero-requires : tie.Need-is-zero-requires
+is-zero-requires c κs = search needs
 
 returns : tie.Need-returns
 unfolding nothingLeft
-returns c = rw (failed (c .before .no-key .ensures) (c .if1 .taken))
+returns c = rw (failed (c .before .is-zero .ensures) (c .if1 .taken))
 
 no-packet-requires : tie.Need-no-packet-requires
 no-packet-requires c κs = search needs
 
 returns-2 : tie.Need-returns-2
 unfolding nothingLeft
-returns-2 c = rw (held (c .before .before .no-key .ensures) (c .before .if1 .left)) (c .no-packet .ensures)
+returns-2 c = rw (held (c .before .before .is-zero .ensures) (c .before .if1 .left)) (c .no-packet .ensures)
 
 pub nothing-left-spec : {M : Type 1} → statement M
-nothing-left-spec = tie.close (tie.spec no-key-requires returns no-packet-requires returns-2)
+nothing-left-spec = tie.close (tie.spec is-zero-requires returns no-packet-requires returns-2)

@@ -10,9 +10,6 @@ flagged-in-requires c κs = search needs
 open-in-requires : tie.Need-open-in-requires
 open-in-requires c κs = search needs
 
-nothing-left-requires : tie.Need-nothing-left-requires
-nothing-left-requires c κs = search needs
-
 sub-state-of : tie.Need-sub-state-of
 sub-state-of c = search needs
 
@@ -21,12 +18,11 @@ state-of-requires c κs = search needs
 
 returns : tie.Need-returns
 returns c =
-    let a = c .before .before .before .before .before .before .before .before .args in
+    let a = c .before .before .before .before .before .before .before .args in
     report-is (a .n) (a .xors .now) (a .flows .now) (a .packets .now) (a .flags .now)
-    (c .before .before .before .flagged-in .ensures .0) (c .before .before .open-in .ensures .0) (c .before .nothing-left .ensures)
-    (c .state-of .ensures)
+    (c .before .before .flagged-in .ensures .0) (c .before .open-in .ensures .0) (c .state-of .ensures)
 
 pub report-of-spec : {M : Type 1} → statement M
 report-of-spec =
     tie.close
-    (tie.spec flagged-in-requires open-in-requires nothing-left-requires sub-state-of state-of-requires returns)
+    (tie.spec flagged-in-requires open-in-requires sub-state-of state-of-requires returns)
