@@ -77,7 +77,7 @@ uint32_t elderflute_version(void);
 
 /* States of a report. */
 enum elderflute_state {
-    ELDERFLUTE_WHOLE = 0, /* every listed flow has its count, and the cells are all zero */
+    ELDERFLUTE_WHOLE = 0, /* every listed flow has its count, and the cells are all zero: no other flows and counts give the cells of the image */
     ELDERFLUTE_SHORT = 1, /* no cell has a flow left, a count is unknown */
     ELDERFLUTE_STUCK = 2, /* some cells still hold flows */
     ELDERFLUTE_STRAY = 3  /* no cell has a flow left, every listed flow has a count, but a cell is not zero: none of the counts is to be trusted */

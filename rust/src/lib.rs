@@ -191,7 +191,7 @@ pub struct Stopped {
 /// State of a report.
 #[derive(Clone, Copy, PartialEq, Eq, Debug)]
 pub enum State {
-    /// Every listed flow has its count, and the cells are all zero.
+    /// Every listed flow has its count, and the cells are all zero: no other flows and counts give the cells of the image.
     Whole,
     /// No cell has a flow left, a count is unknown.
     Short,

@@ -35,7 +35,7 @@ module _ (l : Layout) (lays : Lays l) (image : List ℕ) (bytes : Bytes image) (
   abbrev w : Switch
   w = switchOf l z salt (filterIn z image)
 
-  abbrev sealable : Sealable l z (filterIn z image) (cellsIn l z image)
+  abbrev pub sealable : Sealable l z (filterIn z image) (cellsIn l z image)
   sealable = read-only l lays image bytes slot z salt e .1
 
   -- Theorem: what opening leaves passes the test
@@ -43,10 +43,11 @@ module _ (l : Layout) (lays : Lays l) (image : List ℕ) (bytes : Bytes image) (
   image-passing = opened-passing l z lays (sealable .sizes) salt slot image
       (ap length (read-only l lays image bytes slot z salt e .0) ∙ length-image l z salt slot (filterIn z image) (cellsIn l z image) lays)
 
-  image-viewed : viewed l v ≡ opened (tableOf l z (cellsIn l z image))
+  -- Theorem: it is the theory's session of the image's cells, at the switch of its sizes, salt and filter
+  pub image-viewed : viewed l v ≡ opened (tableOf l z (cellsIn l z image))
   image-viewed = opened-viewed l z lays image (sealable .cells-length) salt slot
 
-  image-switch : switchAt l v ≡ w
+  pub image-switch : switchAt l v ≡ w
   image-switch = opened-switch l z lays image (sealable .cells-length) salt slot
 
   -- Theorem: settled with answer 0 and no hand-over, every listed flow is counted

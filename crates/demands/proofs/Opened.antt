@@ -1,13 +1,12 @@
 -- A session just opened is the theory's session of the cells that the image holds, and passes the test.
 use mathlib.Core.Path.{_≡_, refl, ap, fun-ext}
 use mathlib.Core.List.{List}
-use Prim.Native.Nat.{ℕ, _*_, _<_}
+use Prim.Native.Nat.{ℕ}
 use native.Mathlib.Omega.{arith}
 use native.Mathlib.Decide.{decLt}
 use borrow.Author.Tests.{lt-ltb, le-ltb}
 use lib.ListN.{length}
-use Rattle.laws.proofs.Lists.{length-part}
-use Rattle.laws.proofs.Rows.{row-within, join-part}
+use Rattle.laws.proofs.Rows.{join-part}
 use Rattle.laws.proofs.Upto.{list-at}
 use Rattle.layout.specs.declared.Layout.{Layout}
 use Rattle.layout.specs.declared.Sizes.{Sizes}
@@ -15,6 +14,7 @@ use Rattle.layout.specs.Sizes.{Lays, tableCells, cellBytes}
 use Rattle.cell.specs.Cell.{flowXorAt, flowCountAt, packetCountAt}
 use Rattle.list.specs.Records.{keyAt}
 use Rattle.reading.specs.Read.{cellsIn, filterIn}
+use Rattle.opening.proofs.Copies.{xor-long}
 use Rattle.opening.specs.Open.{xorsIn, flowsIn, packetsIn, openedMemory}
 use Rattle.theory.specs.Session.{opened}
 use Rattle.meaning.specs.View.{cellAt, tableOf, switchOf}
@@ -28,17 +28,13 @@ module _ (l : Layout) (z : Sizes) (lays : Lays l) (image : List ℕ) (whole : le
   abbrev cells : List ℕ
   cells = cellsIn l z image
 
-  xor-long : (c : ℕ) → c < tableCells l z → length (flowXorAt l cells c) ≡ l .key
-  unfolding flowXorAt cellBytes
-  xor-long c h = length-part cells (c * l .cell) (l .key) (omega (arith, whole, lays .key-fits, row-within c (tableCells l z) (l .cell) h))
-
   -- the slices hold the image's cells
   pub cells-seen : cellsOf l z (xorsIn l z image) (flowsIn l z image) (packetsIn l z image) ≡ tableOf l z cells
-  unfolding cellsOf below tableOf cellAt
+  unfolding cellsOf below tableOf cellAt cellBytes
   cells-seen = fun-ext (λ c. elim (decLt c (tableCells l z)) [
     | no h ↦ rw (le-ltb c (tableCells l z) (omega arith))
     | yes h ↦ rw (lt-ltb c (tableCells l z) h) (cell-fields
-        (unfold xorsIn keyAt in join-part (tableCells l z) (l .key) (flowXorAt l cells) xor-long c h)
+        (unfold xorsIn keyAt in join-part (tableCells l z) (l .key) (flowXorAt l cells) (xor-long l lays (tableCells l z) cells whole) c h)
         (unfold flowsIn in list-at (tableCells l z) (flowCountAt l cells) 0 c h)
         (unfold packetsIn in list-at (tableCells l z) (packetCountAt l cells) 0 c h))
   ])

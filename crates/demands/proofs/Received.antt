@@ -76,9 +76,15 @@ saltRead (read.Form n) = 0
 saltRead (read.Mixed n) = 0
 saltRead read.Stale = 0
 
-same-numbers : {s : Session} {z : Sizes} {salt slot : ℕ} → s .sizes ≡ z → s .salt ≡ salt → s .slot ≡ slot → s .listed ≡ 0
-    → s ≡ record { sizes = z; salt = salt; slot = slot; listed = 0 }
-same-numbers a b c d = λ i. record { sizes = a i; salt = b i; slot = c i; listed = d i }
+same-numbers : {s : Session} {slot : ℕ} → s .slot ≡ slot → s .listed ≡ 0 → s ≡ record { sizes = s .sizes; salt = s .salt; slot = slot; listed = 0 }
+same-numbers {s = s} c d = λ i. record { sizes = s .sizes; salt = s .salt; slot = c i; listed = d i }
+
+-- Theorem: opening with answer 0 reads the image, and leaves a session of its sizes and salt just opened on it
+pub opened-live : (l : Layout) (image : List ℕ) (slot : ℕ) (room : Memory) (v : Live) → openOf l image slot room ≡ opening (Open (v .numbers)) (v .room)
+    → (readOf l image slot ≡ read.Image (v .numbers .sizes) (v .numbers .salt)) × (v ≡ openedLive l (v .numbers .sizes) (v .numbers .salt) slot image)
+opened-live l image slot room v e =
+    let d = open-done l image slot room (v .numbers) (ap (λ o. o .answer) e) in
+    (d .read-is, ap₂ live (same-numbers (d .slot-is) (d .none-listed)) (sym (ap (λ o. o .room) e) ∙ d .room-is))
 
 module _ (l : Layout) (lays : Lays l) (z : Sizes) (salt slot : ℕ) (m : encoder.Memory) (v : Live) (rc : Received l z salt slot m v) where
   abbrev written : List ℕ
@@ -87,7 +93,7 @@ module _ (l : Layout) (lays : Lays l) (z : Sizes) (salt slot : ℕ) (m : encoder
   abbrev sealable : Sealable l z (m .filter) (m .cells)
   sealable = seal-done l z salt slot (m .filter) (m .cells) (rc .imageRoom) (ap (λ s. s .answer) (rc .sealed)) .0
 
-  image-is : rc .image ≡ written
+  pub image-is : rc .image ≡ written
   image-is = sym (ap (λ s. s .image) (rc .sealed))
       ∙ seal-done l z salt slot (m .filter) (m .cells) (rc .imageRoom) (ap (λ s. s .answer) (rc .sealed)) .1
 
@@ -98,12 +104,11 @@ module _ (l : Layout) (lays : Lays l) (z : Sizes) (salt slot : ℕ) (m : encoder
   live-is : v ≡ openedLive l z salt slot written
   unfolding sizesRead saltRead
   live-is =
-      let d = open-done l (rc .image) slot (rc .room) (v .numbers) (ap (λ o. o .answer) (rc .opened)) in
-      let e = sym (d .read-is) ∙ ap (λ s. readOf l s slot) image-is ∙ back .0 in
+      let o = opened-live l (rc .image) slot (rc .room) v (rc .opened) in
+      let e = sym (o .0) ∙ ap (λ s. readOf l s slot) image-is ∙ back .0 in
       let sizes : v .numbers .sizes ≡ z = ap (sizesRead z) e in
       let salts : v .numbers .salt ≡ salt = ap saltRead e in
-      let room = sym (ap (λ o. o .room) (rc .opened)) ∙ d .room-is in
-      ap₂ live (same-numbers sizes salts (d .slot-is) (d .none-listed)) (room ∙ rw (sizes, salts, image-is))
+      o .1 ∙ rw (sizes, salts, image-is)
 
   pub received-ranged : Ranged z
   received-ranged = sealable .sizes

@@ -2,11 +2,13 @@
 use mathlib.Core.Path.{_≡_, refl, sym, ap, ap₂, subst, _∙_}
 use mathlib.Core.Bool.{true, false}
 use mathlib.Core.List.{List, [], _∷_}
-use Prim.Native.Nat.{ℕ, _+_}
+use Prim.Native.Nat.{ℕ, _+_, _*_}
 use native.Mathlib.Omega.{arith}
 use lib.ListN.{length}
+use Rattle.laws.proofs.Upto.{length-list}
 use Rattle.layout.specs.declared.Layout.{Layout}
 use Rattle.layout.specs.declared.Sizes.{Sizes}
+use Rattle.layout.specs.Sizes.{tableCells}
 use Rattle.layout.proofs.Ranges.{range-test}
 use Rattle.peeling.specs.Peel.{listedAt}
 use Rattle.peeling.specs.declared.Stop.{Stop}
@@ -27,7 +29,10 @@ use Rattle.theory.specs.Session.{listed, handedOf, hasEmptyCell, stopNumber}
 use Rattle.theory.specs.HandOver as theory
 use Rattle.theory.proofs.HandOver.{hand-edge}
 use Rattle.link.specs.Answers.{stopOf}
+use Rattle.link.specs.View.{recordAt}
 use Rattle.link.proofs.Again.{session-still}
+use Rattle.link.proofs.Lists.{listed-length}
+use Rattle.link.proofs.Test8.{session-proper}
 use Rattle.demands.specs.Calls.{Live, live, withListed, afterHand, afterSettle, callOn, callsOn, KeysFit, viewed, switchAt, Passing}
 use Rattle.demands.proofs.Lists.{Shows, settle-shows, settle-stops, hand-shows, hand-number}
 
@@ -55,6 +60,13 @@ module _ (l : Layout) (v : Live) (p : Passing l v) where
         (record { filter-fits = p .filter-fits; packets-fit = p .lent .packets-fit; table = p .lent .table; room = p .lent .room });
     rest = p .passes;
   }
+
+  -- the keys that it lists have the layout's length
+  pub viewed-sized : (k : Key) → listed (viewed l v) k ≡ true → length k ≡ l .key
+  viewed-sized =
+      let proper = session-proper l z (s .salt) (s .listed) (m .table) (m .packets) (m .list) (p .lent) (p .passes) .0 in
+      listed-length l (2 * tableCells l z) (s .listed) (m .list) (p .lent .room)
+      (omega (arith, proper .room, length-list (s .listed) (recordAt l (m .list))))
 
   -- lists that show a session are followed by those numbers and that room
   followed : {n : ℕ} {t : Rattle.table.specs.Table.Tab} {packets : List ℕ} {rs : Rattle.list.specs.Records.Records}

@@ -129,6 +129,12 @@ module _ (l : Layout) (u v : Live) (pu : Passing l u) (pv : Passing l v) (slots 
       pair-path (ap (viewed l) live-a ∙ shown .pair-shows .shows-a .seen-as) (ap (viewed l) live-b ∙ shown .pair-shows .shows-b .seen-as)
       (rw exchange-passed (answer-twelves (done .ending) (p .a .listed) (p .b .listed) (p .twelves)) ∙ shown .pair-shows .twelves-are)
 
+  pub exchanged-a : viewed l (exchangedA l u v) ≡ result .pair .a
+  exchanged-a = ap (λ (p : theory.Pair). p .a) exchange-pair
+
+  pub exchanged-b : viewed l (exchangedB l u v) ≡ result .pair .b
+  exchanged-b = ap (λ (p : theory.Pair). p .b) exchange-pair
+
   -- Theorem: both sessions pass the test again, and their switches are as they were
   pub passing-a : Passing l (exchangedA l u v)
   passing-a = subst (Passing l) (sym live-a)

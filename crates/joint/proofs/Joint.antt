@@ -4,44 +4,25 @@ use mathlib.Core.Path.{_≡_, sym, ap, ap₂, subst, _∙_}
 use mathlib.Core.Bool.{true}
 use Rattle.layout.specs.declared.Layout.{Layout}
 use Rattle.exchange.specs.Exchange.{exchangeNumber}
-use Rattle.theory.specs.Encode.{Key}
-use Rattle.theory.specs.Session.{handedOver}
 use Rattle.theory.specs.HandOver.{Switch}
 use Rattle.theory.specs.Invariant.{Counted}
 use Rattle.theory.specs.Runs.{Stands, AtRest}
 use Rattle.theory.specs.Demands.{HandedCounted, Truthful, AtEnd}
 use Rattle.theory.specs.Exchange.{Pair, BothCounted, JointClosure, CountsAlone, exchange}
 use Rattle.theory.proofs.Demands.{stands-holds, truthful, rest-ends, counts-alone}
-use Rattle.theory.proofs.Exchange.{exchange-ends, exchange-rests, exchange-closure, exchange-keeps-a, exchange-keeps-b, exchange-stands-a, exchange-stands-b}
+use Rattle.theory.proofs.Exchange.{exchange-ends, exchange-rests, exchange-closure, exchange-stands-a, exchange-stands-b}
 use Rattle.demands.specs.Calls.{Live, viewed, switchAt, Passing}
 use Rattle.demands.specs.Demands.{StandsAt}
 use Rattle.joint.specs.Exchanges.{exchangeOn, exchangedA, exchangedB, pairBefore, pairAfter}
-use Rattle.joint.proofs.Exchanges.{exchange-pair, exchange-number, endNumber, passing-a, passing-b, switch-a, switch-b}
+use Rattle.joint.proofs.Exchanges.{exchange-pair, exchanged-a, exchanged-b, exchange-number, endNumber, passing-a, passing-b, switch-a, switch-b}
 
 -- ---- one switch, whatever session the other is
-module _ (l : Layout) (u v : Live) (pu : Passing l u) (pv : Passing l v) (slots : u .numbers .slot ≡ v .numbers .slot) where
-  abbrev left : Pair
-  left = exchange (switchAt l u) (switchAt l v) (pairBefore l u v) .pair
-
-  is-a : viewed l (exchangedA l u v) ≡ left .a
-  is-a = ap (λ (p : Pair). p .a) (exchange-pair l u v pu pv slots)
-
-  is-b : viewed l (exchangedB l u v) ≡ left .b
-  is-b = ap (λ (p : Pair). p .b) (exchange-pair l u v pu pv slots)
-
-  -- what was handed over stays handed over
-  pub handed-a : (k : Key) → handedOver (viewed l u) k ≡ true → handedOver (viewed l (exchangedA l u v)) k ≡ true
-  handed-a k h = subst (λ s. handedOver s k ≡ true) (sym is-a) (exchange-keeps-a (switchAt l u) (switchAt l v) (pairBefore l u v) k h)
-
-  pub handed-b : (k : Key) → handedOver (viewed l v) k ≡ true → handedOver (viewed l (exchangedB l u v)) k ≡ true
-  handed-b k h = subst (λ s. handedOver s k ≡ true) (sym is-b) (exchange-keeps-b (switchAt l u) (switchAt l v) (pairBefore l u v) k h)
-
 -- Theorem: where every flow that the first switch accepted was counted there, its session stays one of its flowset
 pub first-stands : (l : Layout) (A : Switch) (F : Counted A) (u v : Live) → StandsAt l A F u → Passing l v → u .numbers .slot ≡ v .numbers .slot
     → HandedCounted (F .flows) (viewed l (exchangedA l u v)) → StandsAt l A F (exchangedA l u v)
 first-stands l A F u v su pv slots ours =
     let left : viewed l (exchangedA l u v) ≡ exchange A (switchAt l v) (pairBefore l u v) .pair .a
-    = is-a l u v (su .passing) pv slots ∙ ap (λ w. exchange w (switchAt l v) (pairBefore l u v) .pair .a) (su .switch-is) in
+    = exchanged-a l u v (su .passing) pv slots ∙ ap (λ w. exchange w (switchAt l v) (pairBefore l u v) .pair .a) (su .switch-is) in
     record {
       switch-is = switch-a l u v (su .passing) pv slots ∙ su .switch-is;
       passing = passing-a l u v (su .passing) pv slots;
@@ -55,7 +36,7 @@ pub second-stands : (l : Layout) (B : Switch) (G : Counted B) (u v : Live) → P
     → HandedCounted (G .flows) (viewed l (exchangedB l u v)) → StandsAt l B G (exchangedB l u v)
 second-stands l B G u v pu sv slots ours =
     let left : viewed l (exchangedB l u v) ≡ exchange (switchAt l u) B (pairBefore l u v) .pair .b
-    = is-b l u v pu (sv .passing) slots ∙ ap (λ w. exchange (switchAt l u) w (pairBefore l u v) .pair .b) (sv .switch-is) in
+    = exchanged-b l u v pu (sv .passing) slots ∙ ap (λ w. exchange (switchAt l u) w (pairBefore l u v) .pair .b) (sv .switch-is) in
     record {
       switch-is = switch-b l u v pu (sv .passing) slots ∙ sv .switch-is;
       passing = passing-b l u v pu (sv .passing) slots;

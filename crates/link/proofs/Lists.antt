@@ -12,7 +12,7 @@ use lib.Seq.{ext-getD, getD-set-same, getD-set-other}
 use Rattle.laws.specs.Digit.{digit}
 use Rattle.laws.specs.Upto.{anyUpto, listUpto}
 use Rattle.laws.proofs.Bools.{iff}
-use Rattle.laws.proofs.Upto.{any-same, length-list, list-at, list-same}
+use Rattle.laws.proofs.Upto.{any-some, any-same, length-list, list-at, list-same}
 use Rattle.layout.specs.declared.Layout.{Layout}
 use Rattle.list.specs.Records.{Records, Room, keyAt, isKnown, isHanded, sameBytes, isListed, appended, withCount}
 use Rattle.list.proofs.Laws.{same-is, same-self, length-key, key-appended, key-kept, known-told, handed-told, flags-other}
@@ -58,6 +58,12 @@ record-path a b c d = λ i. record { key = a i; count = b i; known = c i; handed
 module _ (l : Layout) (m n : ℕ) (rs : Records) (room : Room l m rs) where
   pub record-length : (i : ℕ) → i < m → length (keyAt l (rs .keys) i) ≡ l .key
   record-length i h = length-key l (rs .keys) i (omega (arith, room .keys-fit, row-within i m (l .key) h))
+
+  -- a listed key has the layout's length
+  pub listed-length : n ≤ m → (key : Key) → among key (keysOf (recordsOf l n rs)) ≡ true → length key ≡ l .key
+  listed-length within key h =
+      let i = any-some n (λ j. sameKey key (keyAt l (rs .keys) j)) (sym (among-list key l rs n) ∙ h) in
+      ap length (same-eq key (keyAt l (rs .keys) (i .0)) (i .2)) ∙ record-length (i .0) (omega (arith, i .1))
 
   -- 01 'A session': "already listed"
   pub listed-is : n ≤ m → (key : Key) → length key ≡ l .key → among key (keysOf (recordsOf l n rs)) ≡ isListed l n (rs .keys) key

@@ -102,7 +102,7 @@ pub record SameCell (l : Layout) (payload : List ℕ) (d : ℕ) (cells : List �
   pub flow-same : flowCountAt l payload d ≡ flowCountAt l cells c
   pub packet-same : packetCountAt l payload d ≡ packetCountAt l cells c
 
-xor-long : (l : Layout) → Lays l → (n : ℕ) (cells : List ℕ) → length cells ≡ n * l .cell → (c : ℕ) → c < n → length (flowXorAt l cells c) ≡ l .key
+pub xor-long : (l : Layout) → Lays l → (n : ℕ) (cells : List ℕ) → length cells ≡ n * l .cell → (c : ℕ) → c < n → length (flowXorAt l cells c) ≡ l .key
 unfolding flowXorAt
 xor-long l lays n cells long c h = length-part cells (c * l .cell) (l .key) (omega (arith, row-within c n (l .cell) h, lays .key-fits))
 

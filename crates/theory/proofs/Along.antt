@@ -3,7 +3,7 @@
 use mathlib.Core.Path.{_≡_, refl, sym, ap, _∙_, subst}
 use mathlib.Core.Logic.{inl, inr}
 use mathlib.Core.Bool.{Bool, true, false}
-use mathlib.Core.List.{List, [], _∷_}
+use mathlib.Core.List.{List, [], _∷_, _++_}
 use Prim.Native.Nat.{ℕ, zero, suc, _≤_, _<_}
 use native.Mathlib.Decide.{ℕ-discrete}
 use native.Mathlib.Nat.{le-refl}
@@ -13,21 +13,20 @@ use lib.Dec.{eqb, leb}
 use Rattle.laws.proofs.Bools.{split, clash}
 use Rattle.theory.specs.Encode.{Key, among}
 use Rattle.theory.specs.Session.{Session, keysOf, handedOf, listed, handedOver, Stop}
-use Rattle.theory.specs.HandOver.{Switch, handAnswer, handOver, call, calls, handEach, settleAt}
+use Rattle.theory.specs.HandOver.{Switch, handAnswer, handOver, Call, settling, call, calls, handEach, settleAt}
 use Rattle.theory.specs.Invariant.{Counted, Holds}
-use Rattle.theory.specs.Demands.{HandedCounted}
 use Rattle.theory.specs.Exchange.{handAll, twelvesIn}
 use Rattle.theory.specs.Family.{Family, FamilyEnding, ended, stoppedAt, Ended, Way, leads, Within, putAt, handTo, handAlong, andThen}
 use Rattle.theory.specs.Family.{settleOne, settleUpto, exchangeAlong}
 use Rattle.theory.proofs.Flow.{among-here, among-there}
 use Rattle.theory.proofs.Records.{where-listed}
 use Rattle.theory.proofs.Settle.{none-empty}
-use Rattle.theory.proofs.HandOver.{accepts}
-use Rattle.theory.proofs.Calls.{Goes, goes-holds, settle-goes, hand-goes, calls-go}
+use Rattle.theory.proofs.HandOver.{accepts, calls-append}
+use Rattle.theory.proofs.Calls.{Goes, goes-holds, settle-goes, hand-goes}
 use Rattle.theory.proofs.Grown.{grown-length, Passed, passed}
 use Rattle.theory.proofs.Generic.{put-here, put-other, put-all, put-same}
 use Rattle.theory.proofs.Onward.{leads-cases, upto-keeps, exchange-keeps}
-use Rattle.theory.proofs.Onward.{Onward, onward-refl, onward-trans, onward-hand, onward-settle, onward-along}
+use Rattle.theory.proofs.Onward.{onward-hand, onward-along}
 use Rattle.theory.proofs.Room.{then-ended}
 
 -- ---- one switch
@@ -143,6 +142,36 @@ module _ (W : ℕ → Switch) where
       )
 
 -- ---- one switch of a family in an exchange, whatever the others are
+module _ (W : ℕ → Switch) (i : ℕ) (s : Session) where
+  -- what stands at this switch is what some hand-overs and settlings leave of s
+  abbrev ByCalls : Family → Type 0
+  ByCalls p = (later : List Call) × (p .session i ≡ calls (W i) later s)
+
+  settled-by : (j : ℕ) (p : Family) → ByCalls p → ByCalls (settleOne W j p .family)
+  unfolding settleOne calls call
+  settled-by j p b = elim (ℕ-discrete i j) [
+    | no d ↦ (b .0, put-other j _ (p .session) i d ∙ b .1)
+    | yes q ↦ (
+      b .0 ++ (settling ∷ []),
+      subst (λ a. putAt a (settleAt (W a) (p .session a) .state) (p .session) i ≡ calls (W i) (b .0 ++ (settling ∷ [])) s) q
+          (put-here i _ (p .session) ∙ ap (λ u. settleAt (W i) u .state) (b .1) ∙ sym (calls-append (W i) (b .0) (settling ∷ []) s)),
+    )
+  ]
+
+  handed-by : (v : Way) (p : Family) → ByCalls p → ByCalls (handTo W v p)
+  handed-by v p b = elim (ℕ-discrete i (v .to)) [
+    | no d ↦ (b .0, hand-away W v p i d ∙ b .1)
+    | yes q ↦ (
+      b .0 ++ handEach (given W v p),
+      subst (λ a. handTo W v p .session a ≡ handAll (W a) (given W v p) (p .session a)) (sym q) (hand-session W v p)
+          ∙ ap (handAll (W i) (given W v p)) (b .1) ∙ sym (calls-append (W i) (b .0) (handEach (given W v p)) s),
+    )
+  ]
+
+  -- Theorem: to each switch an exchange is some hand-overs and settlings
+  pub one-by-calls : (n : ℕ) (l : List Way) (p : Family) → ByCalls p → ByCalls (exchangeAlong n W l p .family)
+  one-by-calls n l = exchange-keeps n W ByCalls (λ j p _. settled-by j p) l (λ v p _. handed-by v p)
+
 module _ (W : ℕ → Switch) (i : ℕ) (e : Counted (W i)) (s₀ : Session) (i₀ : Holds (W i) e s₀) where
   abbrev pub GoesIn : Family → Type 0
   GoesIn p = Goes (W i) e s₀ i₀ (p .session i)
@@ -152,23 +181,3 @@ module _ (W : ℕ → Switch) (i : ℕ) (e : Counted (W i)) (s₀ : Session) (i�
   one-settles j p g = put-all j _ (p .session) (λ a t. a ≡ i → Goes (W i) e s₀ i₀ t)
       (λ q. subst (λ a. Goes (W i) e s₀ i₀ (settleAt (W a) (p .session a) .state)) (sym q) (settle-goes (W i) e s₀ i₀ (p .session i) g .0))
       (λ a q. subst (λ b. Goes (W i) e s₀ i₀ (p .session b)) (sym q) g) i refl
-
-  pub one-handed : (v : Way) (p : Family) → GoesIn p → HandedCounted (e .flows) (handTo W v p .session i) → GoesIn (handTo W v p)
-  one-handed v p g ours = elim (ℕ-discrete i (v .to)) [
-    | no d ↦ subst (Goes (W i) e s₀ i₀) (sym (hand-away W v p i d)) g
-    | yes q ↦
-        let here : handTo W v p .session i ≡ handAll (W i) (given W v p) (p .session i)
-        = subst (λ a. handTo W v p .session a ≡ handAll (W a) (given W v p) (p .session a)) (sym q) (hand-session W v p) in
-        subst (Goes (W i) e s₀ i₀) (sym here)
-        (calls-go (W i) e s₀ i₀ (handEach (given W v p)) (p .session i) g (subst (HandedCounted (e .flows)) here ours))
-  ]
-
-  -- Theorem: where every flow that this switch accepted was counted here, its session stays one of its flowset
-  pub one-goes : (n : ℕ) (l : List Way) (p : Family) → GoesIn p → HandedCounted (e .flows) (exchangeAlong n W l p .family .session i)
-      → GoesIn (exchangeAlong n W l p .family)
-  one-goes n l p g ours =
-      let final = exchangeAlong n W l p .family in
-      exchange-keeps n W (λ q. Onward q final → GoesIn q)
-      (λ j q _ h o. one-settles j q (h (onward-trans q (settleOne W j q .family) final (onward-settle W j q) o))) l
-      (λ v q _ h o. one-handed v q (h (onward-trans q (handTo W v q) final (onward-hand W v q) o)) (λ k x. ours k (o .handed i k x)))
-      p (λ _. g) (onward-refl final)

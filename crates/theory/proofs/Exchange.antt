@@ -3,17 +3,17 @@
 use mathlib.Core.Path.{_≡_, refl, sym, ap, _∙_, subst}
 use mathlib.Core.Logic.{inl, inr}
 use mathlib.Core.Bool.{Bool, true, false, cond}
-use mathlib.Core.List.{[], _∷_}
+use mathlib.Core.List.{List, [], _∷_}
 use Prim.Native.Nat.{ℕ, zero, suc, _+_, _*_, _<_}
 use native.Mathlib.Omega.{arith}
 use Rattle.laws.specs.Upto.{anyUpto}
 use Rattle.laws.proofs.Bools.{split}
 use Rattle.theory.specs.Encode.{Key, among}
-use Rattle.theory.specs.Session.{listed, handedOver, Stop, settled, damage}
-use Rattle.theory.specs.HandOver.{Switch, settleAt}
+use Rattle.theory.specs.Session.{listed, Stop, settled, damage}
+use Rattle.theory.specs.HandOver.{Switch, Call, calls, settleAt}
 use Rattle.theory.specs.Fits.{Fits}
 use Rattle.theory.specs.Runs.{PeelClosed, Stands, AtRest}
-use Rattle.theory.specs.Invariant.{Counted, received, Holds}
+use Rattle.theory.specs.Invariant.{Counted, Holds}
 use Rattle.theory.specs.Demands.{HandedCounted}
 use Rattle.theory.specs.Exchange.{Pair, Ending, finished, stoppedA, stoppedB, Exchanged, handBoth, settleBoth, round, grew, goOn, rounds}
 use Rattle.theory.specs.Exchange.{thenRounds, exchange, PassesOwn, BothCounted, JointlyClosed, JointClosure}
@@ -21,10 +21,10 @@ use Rattle.theory.specs.Family.{Family, FamilyEnding, ended, stoppedAt, 
 use Rattle.theory.specs.Family.{andThen, settleOne, settleUpto, roundAlong, anyGrew, roundsAlong, sumUpto, roundsRoom, exchangeAlong}
 use Rattle.theory.specs.Family.{two, familyOf, onePair, AllCounted, ClosedAlong, ClosureAlong}
 use Rattle.theory.specs.Thirteen.{ExchangeNever13}
-use Rattle.theory.proofs.Onward.{within-both, onward-exchange}
+use Rattle.theory.proofs.Onward.{within-both}
 use Rattle.theory.proofs.Room.{AllFit, family-over, family-enough, family-never-13}
-use Rattle.theory.proofs.Invariant.{invariant-opened}
-use Rattle.theory.proofs.Along.{one-goes}
+use Rattle.theory.proofs.Demands.{stands-calls}
+use Rattle.theory.proofs.Along.{one-by-calls}
 use Rattle.theory.proofs.Family.{family-ends, family-rests, family-closure}
 
 -- ---- two switches as a family, and back
@@ -231,22 +231,24 @@ module _ (A B : Switch) (e : Counted A) (f : Counted B) (p₀ : Pair) where
 
 -- ---- one switch, whatever the other is
 module _ (A B : Switch) (p : Pair) where
-  -- what was handed over stays handed over
-  pub exchange-keeps-a : (k : Key) → handedOver (p .a) k ≡ true → handedOver (exchange A B p .pair .a) k ≡ true
-  exchange-keeps-a k h = subst (λ (r : Exchanged). handedOver (r .pair .a) k ≡ true) (two-are A B p)
-      (onward-exchange (two A B) 2 onePair (familyOf p) .handed 0 k h)
+  -- Theorem: to each of the two an exchange is some hand-overs and settlings
+  pub exchange-calls-a : (later : List Call) × (exchange A B p .pair .a ≡ calls A later (p .a))
+  unfolding calls
+  exchange-calls-a = subst (λ (r : Exchanged). (later : List Call) × (r .pair .a ≡ calls A later (p .a))) (two-are A B p)
+      (one-by-calls (two A B) 0 (p .a) 2 onePair (familyOf p) ([], refl))
 
-  pub exchange-keeps-b : (k : Key) → handedOver (p .b) k ≡ true → handedOver (exchange A B p .pair .b) k ≡ true
-  exchange-keeps-b k h = subst (λ (r : Exchanged). handedOver (r .pair .b) k ≡ true) (two-are A B p)
-      (onward-exchange (two A B) 2 onePair (familyOf p) .handed 1 k h)
+  pub exchange-calls-b : (later : List Call) × (exchange A B p .pair .b ≡ calls B later (p .b))
+  unfolding calls
+  exchange-calls-b = subst (λ (r : Exchanged). (later : List Call) × (r .pair .b ≡ calls B later (p .b))) (two-are A B p)
+      (one-by-calls (two A B) 1 (p .b) 2 onePair (familyOf p) ([], refl))
 
   -- Theorem: where every flow that A accepted was counted there, its session stays one of its flowset; and so B's
   pub exchange-stands-a : (e : Counted A) → Stands A e (p .a) → HandedCounted (e .flows) (exchange A B p .pair .a) → Stands A e (exchange A B p .pair .a)
-  exchange-stands-a e g ours = subst (λ (r : Exchanged). Stands A e (r .pair .a)) (two-are A B p)
-      (one-goes (two A B) 0 e (received A e) (invariant-opened A e) 2 onePair (familyOf p) g
-      (subst (λ (r : Exchanged). HandedCounted (e .flows) (r .pair .a)) (sym (two-are A B p)) ours))
+  exchange-stands-a e g ours =
+      let c = exchange-calls-a in
+      subst (Stands A e) (sym (c .1)) (stands-calls A e (c .0) (p .a) g (subst (HandedCounted (e .flows)) (c .1) ours))
 
   pub exchange-stands-b : (f : Counted B) → Stands B f (p .b) → HandedCounted (f .flows) (exchange A B p .pair .b) → Stands B f (exchange A B p .pair .b)
-  exchange-stands-b f g ours = subst (λ (r : Exchanged). Stands B f (r .pair .b)) (two-are A B p)
-      (one-goes (two A B) 1 f (received B f) (invariant-opened B f) 2 onePair (familyOf p) g
-      (subst (λ (r : Exchanged). HandedCounted (f .flows) (r .pair .b)) (sym (two-are A B p)) ours))
+  exchange-stands-b f g ours =
+      let c = exchange-calls-b in
+      subst (Stands B f) (sym (c .1)) (stands-calls B f (c .0) (p .b) g (subst (HandedCounted (f .flows)) (c .1) ours))

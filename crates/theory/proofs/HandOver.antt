@@ -86,6 +86,12 @@ module _ (w : Switch) (I : Session → Type 0)
     calls-keep [] s i = i
     calls-keep (a ∷ l) s i = calls-keep l (call w a s) (call-keeps a s i)
 
+-- calls after calls
+pub calls-append : (w : Switch) (l m : List Call) (s : Session) → calls w (l ++ m) s ≡ calls w m (calls w l s)
+unfolding calls
+calls-append w [] m s = refl
+calls-append w (a ∷ l) m s = calls-append w l m (call w a s)
+
 module _ (w : Switch) where
   pub calls-fit : (l : List Call) (s : Session) → Fits (w .size) s → Fits (w .size) (calls w l s)
   calls-fit = calls-keep w (Fits (w .size)) (peel-fits (w .size) (w .has)) (count-fits (w .size) (w .has)) (hand-fits w)

@@ -28,6 +28,10 @@ pub mod Alone
 pub mod Positions
 pub mod Noted
 pub mod Proper
+-- what a whole report leaves no doubt of
+pub mod Conserved
+pub mod NoOther
+pub mod Others
 -- switches that exchange their lists
 pub mod Grown
 pub mod Generic

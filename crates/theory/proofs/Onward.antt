@@ -186,6 +186,3 @@ module _ (W : ℕ → Switch) where
 
   pub onward-round : (n : ℕ) (l : List Way) (p : Family) → Onward p (roundAlong n W l p .family)
   onward-round n l p = onward-trans p (handAlong W l p) (roundAlong n W l p .family) (onward-along l p) (onward-upto n (handAlong W l p))
-
-  pub onward-exchange : (n : ℕ) (l : List Way) (p : Family) → Onward p (exchangeAlong n W l p .family)
-  onward-exchange n l p = exchange-keeps n W (Onward p) (λ i q _. settle-on p i q) l (λ v q _. hand-on p v q) p (onward-refl p)

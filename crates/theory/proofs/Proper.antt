@@ -31,11 +31,11 @@ positive-count x v p (r ∷ rs) h = elim (split (sameKey (r .key) x)) [
   | inr q ↦ rw q (h .0, positive-count x v p rs (h .1))
 ]
 
-positive-take : (has : Placement) (flag : Bool) (x : Key) (s : Session) → CountsPositive (s .list) → CountsPositive (takeOut has flag x s .list)
+pub positive-take : (has : Placement) (flag : Bool) (x : Key) (s : Session) → CountsPositive (s .list) → CountsPositive (takeOut has flag x s .list)
 unfolding takeOut
 positive-take has flag x s = positive-append (s .list) flag x
 
-positive-set : (has : Placement) (x : Key) (v : ℕ) → 1 ≤ v → (s : Session) → CountsPositive (s .list) → CountsPositive (setCount has x v s .list)
+pub positive-set : (has : Placement) (x : Key) (v : ℕ) → 1 ≤ v → (s : Session) → CountsPositive (s .list) → CountsPositive (setCount has x v s .list)
 unfolding setCount
 positive-set has x v p s = positive-count x v p (s .list)
 

@@ -227,7 +227,7 @@ right-count packets (r ∷ rs) x h = elim (split (sameKey (r .key) x)) [
   | inr p ↦ rw p (h .0, right-count packets rs x (h .1))
 ]
 
-none-known : (rs : List Record) (k : Key) → among k (keysOf rs) ≡ false → countOf rs k ≡ none
+pub none-known : (rs : List Record) (k : Key) → among k (keysOf rs) ≡ false → countOf rs k ≡ none
 unfolding countOf keysOf among
 none-known [] k m = refl
 none-known (r ∷ rs) k m =

@@ -1,4 +1,5 @@
--- On clean flowsets 02 b changes no answer: what is listed and counted leaves nothing over, so that stray never appears. Off them it does.
+-- On clean flowsets 02 b changes no answer: what is listed and counted leaves nothing over, so that stray never appears, and where every flow is
+-- counted the report says whole. Off them it does.
 use mathlib.Core.Path.{_≡_, refl, sym, ap, _∙_, fun-ext}
 use mathlib.Core.Logic.{inl, inr}
 use mathlib.Core.Bool.{Bool, true, false, not, _&&_}
@@ -8,18 +9,28 @@ use Prim.Native.Nat.{ℕ, _+_, _<_}
 use native.Mathlib.Omega.{arith}
 use lib.Dec.{eqb, ltb}
 use lib.ListN.{length, replicate}
-use borrow.Author.Tests.{eq-eqb, ltb-false}
+use borrow.Author.Tests.{eq-eqb, le-ltb, ltb-false}
 use Rattle.laws.specs.Xor.{xorBytes}
 use Rattle.laws.specs.Upto.{anyUpto, allUpto, numberUpto}
 use Rattle.laws.specs.Zeros.{allZero}
-use Rattle.laws.proofs.Bools.{split, and-i, and-t}
+use Rattle.laws.proofs.Bools.{split, clash, and-i, and-t}
+use Rattle.laws.proofs.Lowest.{number-none}
 use Rattle.laws.proofs.Upto.{all-yes}
 use Rattle.laws.proofs.Zeros.{zeros-zero}
-use Rattle.theory.specs.Encode.{Key, sameKey, sumOver, total, count, Placement, Taken, emptyTable, takeInCell, takePacket, takePackets, encodeCell}
+use Rattle.theory.specs.Encode.{Key, sameKey, among, sumOver, total, count, Placement, Taken, emptyTable, takeInCell, takePacket, takePackets, encodeCell, outside}
 use Rattle.theory.specs.Session.{Session, opened, keysWhere, unknownsOf, listed, counted, openCells, pure, ready, settled, Result, afterStep, repeat, peel, countStep, thenCounts, settle}
 use Rattle.theory.specs.Report.{stray, whole, nothingLeft, stateBefore, Report, reportWith, report, reportBefore}
+use Rattle.theory.specs.HandOver.{Switch}
+use Rattle.theory.specs.Invariant.{Counted}
+use Rattle.theory.specs.Runs.{Stands}
 use Rattle.theory.specs.Demands.{keep, Truthful, Shown, Demand2}
 use Rattle.theory.specs.Cases.{a, placedWith}
+use Rattle.theory.proofs.Flow.{among-here}
+use Rattle.theory.proofs.Sums.{sum-none}
+use Rattle.theory.proofs.Records.{where-listed}
+use Rattle.theory.proofs.Outside.{outside-not}
+use Rattle.theory.proofs.Runs.{counted-listed}
+use Rattle.theory.proofs.Demands.{stands-holds, truthful}
 use Rattle.theory.proofs.Whole.{none-open, none-unknown}
 
 -- where no key passes, the sum is nothing
@@ -85,6 +96,36 @@ module _ (keyLength : ℕ) (has : Placement) (F : List Key) (packets : Key → �
   pub never-stray : report n s .state ≡ stray → ⊥
   unfolding reportBefore
   never-stray e = before-not-stray (openCells n (s .cells)) (length (unknownsOf (s .list))) (sym (ap (λ (r : Report). r .state) report-unchanged) ∙ e)
+
+-- Theorem: where every flow counted here is listed with its count, the report says whole
+module _ (w : Switch) (e : Counted w) (s : Session) (g : Stands w e s) (all : (k : Key) → among k (e .flows) ≡ true → counted s k ≡ true) where
+  all-listed : (k : Key) → among k (e .flows) ≡ true → listed s k ≡ true
+  all-listed k m = counted-listed s k (all k m)
+
+  none-left-open : openCells (w .size) (s .cells) ≡ 0
+  unfolding openCells
+  none-left-open = number-none (w .size) (λ c. ltb 0 (s .cells c .flowCount)) (λ c h. le-ltb 0 (s .cells c .flowCount) (omega (
+    arith,
+    stands-holds w e s g .flows c,
+    sum-none _+_ 0 (λ k. 1) (outside (w .has) (listed s) c) (e .flows) (λ k m. elim (split (outside (w .has) (listed s) c k)) [
+      | inl p ↦ clash (all-listed k m) (outside-not (w .has) (listed s) c k p)
+      | inr p ↦ p
+    ]),
+  )))
+
+  none-left-unknown : length (unknownsOf (s .list)) ≡ 0
+  none-left-unknown = go (unknownsOf (s .list)) (λ k u.
+      let l = where-listed (λ r. not (r .known)) (s .list) k u in
+      clash (all k (stands-holds w e s g .inside k l)) (unfold counted in rw (u, l)))
+    where
+      go : (l : List Key) → ((k : Key) → among k l ≡ true → ⊥) → length l ≡ 0
+      go [] h = refl
+      go (x ∷ l) h = absurd (h x (among-here x l))
+
+  pub counted-whole : report (w .size) s .state ≡ whole
+  unfolding reportBefore
+  counted-whole = ap (λ (r : Report). r .state) (report-unchanged (e .keyLength) (w .has) (e .flows) (e .packets) (w .size) s (truthful w e s g))
+      ∙ rw (none-left-open, none-left-unknown)
 
 -- Theorem: whatever meets demand 2 reports as without 02 b, and never stray
 module _ (size keyLength : ℕ) (has : Placement) (F : List Key) (packets : Key → ℕ) (d : Shown) (x : Demand2 size keyLength has F packets d) where

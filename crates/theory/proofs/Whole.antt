@@ -1,26 +1,23 @@
--- A session of a flowset that reports whole lists every flow with its packets; so no other collection of flows encodes to the same cells.
-use mathlib.Core.Path.{_≡_, refl, sym, ap, _∙_, subst}
+-- What a whole report says of the session that it counts: no FlowCount above 0, no unknown count, nothing left in the cells; so nothing is left to do.
+use mathlib.Core.Path.{_≡_, refl}
 use mathlib.Core.Logic.{inl, inr}
-use mathlib.Core.Bool.{Bool, true, false}
+use mathlib.Core.Bool.{Bool, true, false, _&&_}
 use mathlib.Core.List.{List, [], _∷_}
-use mathlib.Core.Option.{some}
 use Prim.Native.Nat.{ℕ, _<_}
 use native.Mathlib.Omega.{arith}
 use lib.ListN.{length}
-use lib.Dec.{ltb}
-use Rattle.laws.proofs.Bools.{split, iff}
-use Rattle.laws.proofs.Upto.{any-some}
-use Rattle.theory.specs.Encode.{Key, among, Table}
-use Rattle.theory.specs.Session.{Record, Session, unknownsOf, listed, unknown, counted, countOf, openCells}
-use Rattle.theory.specs.HandOver.{Switch, Call, calls}
-use Rattle.theory.specs.Invariant.{Counted, received, Holds}
-use Rattle.theory.specs.Report.{whole, nothingLeft, stateOf, report}
-use Rattle.theory.specs.Demands.{HandedCounted}
-use Rattle.theory.proofs.Records.{counts-said}
-use Rattle.theory.proofs.Single.{zero-listed}
-use Rattle.theory.proofs.Demands.{stands-received, stands-calls, stands-holds}
-use borrow.Author.Tests.{ltb-false}
+use lib.Dec.{eqb, ltb}
+use borrow.Author.Tests.{eqb-true, ltb-false}
+use Rattle.laws.specs.Zeros.{allZero}
+use Rattle.laws.proofs.Bools.{split, clash, and-l, and-r}
 use Rattle.laws.proofs.Lowest.{number-zero}
+use Rattle.laws.proofs.Upto.{all-at}
+use Rattle.theory.specs.Encode.{Key, among, Table, Placement}
+use Rattle.theory.specs.Session.{Record, Session, unknownsOf, unknown, openCells, pure, ready}
+use Rattle.theory.specs.Report.{whole, nothingLeft, stateOf, report}
+use Rattle.theory.specs.Runs.{AtRest}
+use Rattle.theory.proofs.Single.{pure-one}
+use Rattle.theory.proofs.Steps.{ready-names}
 
 -- where no cell is open, every FlowCount is 0
 pub none-open : (n : ℕ) (t : Table) → openCells n t ≡ 0 → (c : ℕ) → c < n → t c .flowCount ≡ 0
@@ -53,46 +50,31 @@ module _ (n : ℕ) (s : Session) (z : report n s .state ≡ whole) where
   unfolding report
   whole-says = whole-only (openCells n (s .cells)) (length (unknownsOf (s .list))) (nothingLeft n (s .cells)) z
 
-  whole-zero : (c : ℕ) → c < n → s .cells c .flowCount ≡ 0
-  whole-zero = none-open n (s .cells) (whole-says .0)
-
-  whole-known : (k : Key) → unknown s k ≡ false
+  pub whole-known : (k : Key) → unknown s k ≡ false
   whole-known = none-unknown (s .list) (whole-says .1)
 
-module _ (w : Switch) (e : Counted w) (s : Session) (i : Holds w e s) (z : report (w .size) s .state ≡ whole) where
-  whole-listed : (k : Key) → among k (e .flows) ≡ true → listed s k ≡ true
-  whole-listed k m =
-      let c = any-some (w .size) (w .has k) (e .placed .somewhere k) in
-      zero-listed w e s i (c .0) (whole-zero (w .size) s z (c .0) (c .1)) k m (c .2)
+  pub whole-flows : (c : ℕ) → c < n → s .cells c .flowCount ≡ 0
+  whole-flows = none-open n (s .cells) (whole-says .0)
 
-  -- Theorem: whole lists exactly the flows
-  pub whole-flows : (k : Key) → listed s k ≡ among k (e .flows)
-  whole-flows k = iff (listed s k) (among k (e .flows)) (i .inside k) (whole-listed k)
+  nothing-at : (c : ℕ) → c < n → (allZero (s .cells c .flowXor) && eqb (s .cells c .packetCount) 0) ≡ true
+  unfolding nothingLeft
+  nothing-at = all-at n (λ c. allZero (s .cells c .flowXor) && eqb (s .cells c .packetCount) 0) (whole-says .2)
 
-  -- Theorem: each with its packets
-  pub whole-counts : (k : Key) → among k (e .flows) ≡ true → countOf (s .list) k ≡ some (e .packets k)
-  unfolding counted
-  whole-counts k m = rw (counts-said (e .packets) s (i .apart) (i .right) k, whole-listed k m, whole-known (w .size) s z k)
+  pub whole-xors : (c : ℕ) → c < n → allZero (s .cells c .flowXor) ≡ true
+  whole-xors c h = and-l (allZero (s .cells c .flowXor)) (eqb (s .cells c .packetCount) 0) (nothing-at c h)
 
--- Theorem: two collections of flows that encode to the same cells are the same, if a session of these cells reports whole
-module _ (w : Switch) (e f : Counted w) (same : received w e ≡ received w f) (l : List Call)
-    (oursE : HandedCounted (e .flows) (calls w l (received w e))) (oursF : HandedCounted (f .flows) (calls w l (received w f)))
-    (z : report (w .size) (calls w l (received w e)) .state ≡ whole) where
-  abbrev after : Session
-  after = calls w l (received w e)
+  pub whole-packets : (c : ℕ) → c < n → s .cells c .packetCount ≡ 0
+  whole-packets c h = eqb-true (s .cells c .packetCount) 0 (and-r (allZero (s .cells c .flowXor)) (eqb (s .cells c .packetCount) 0) (nothing-at c h))
 
-  holds-e : Holds w e after
-  holds-e = stands-holds w e after (stands-calls w e l (received w e) (stands-received w e) oursE)
-
-  holds-f : Holds w f after
-  holds-f = subst (Holds w f) (ap (calls w l) (sym same))
-      (stands-holds w f (calls w l (received w f)) (stands-calls w f l (received w f) (stands-received w f) oursF))
-
-  pub same-flows : (k : Key) → among k (e .flows) ≡ among k (f .flows)
-  same-flows k = sym (whole-flows w e after holds-e z k) ∙ whole-flows w f after holds-f z k
-
-  pub same-packets : (k : Key) → among k (e .flows) ≡ true → e .packets k ≡ f .packets k
-  same-packets k m =
-      let p = whole-counts w e after holds-e z k m in
-      let q = whole-counts w f after holds-f z k (sym (same-flows k) ∙ m) in
-      cc
+  -- no cell is pure, and none ready
+  pub whole-rests : (has : Placement) → AtRest n has s
+  whole-rests has = record {
+    none-pure = λ c h. elim (split (pure has (s .cells) c)) [
+      | inl p ↦ absurd (omega (arith, pure-one has s c p, whole-flows c h))
+      | inr p ↦ p
+    ];
+    none-ready = λ c h. elim (split (ready has s c)) [
+      | inl p ↦ clash (ready-names n has s c p) (whole-known _)
+      | inr p ↦ p
+    ];
+  }

@@ -12,6 +12,7 @@ pub mod Family
 pub mod Thirteen
 pub mod Notes
 pub mod Proper
+pub mod NoOther
 pub mod Cases
 pub mod Unclean
 pub mod Collector
