@@ -1,4 +1,6 @@
 // A block of an image as bytes: what sealing and reading have in common. It rests on layout and hash.
+#![tactic(auto)]
+
 ghost use Rattle.std.specs.Prelude.{◌≡◌, ◌*◌, ◌≤◌, length, take};
 ghost use Rattle.layout.specs.Sizes.{Lays};
 ghost use Rattle.hash.specs.Fnv.{fnv};

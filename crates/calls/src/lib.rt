@@ -1,6 +1,8 @@
 // The calls on a single-switch session of IPv4 keys, with the found flows lent as a slice of records: open, hand-over, settle, report.
 // It rests on session for the calls over number slices and on records for the list apart and together. A call takes the list apart once,
 // runs over the numbers, and puts the list together once.
+#![tactic(auto)]
+
 ghost use Rattle.std.specs.Prelude.{◌≡◌, ◌≤◌, length};
 ghost use Rattle.list.specs.Records.{records};
 ghost use Rattle.packet.specs.Key.{key_bytes};

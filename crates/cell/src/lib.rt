@@ -1,4 +1,6 @@
 // A cell in working memory: its fields, and what a packet does to it. It rests on fields, over any layout.
+#![tactic(auto)]
+
 ghost use Rattle.std.specs.Prelude.{◌≡◌, ◌+◌, ◌*◌, ◌≤◌, length};
 ghost use Rattle.layout.specs.Sizes.{Lays};
 ghost use Rattle.cell.specs.Cell.{InTable, flow_count_at, packet_count_at, with_key, add_flow, add_packet, take_at_place};

@@ -1,5 +1,7 @@
 // Counting: the PacketCount of the lowest ready cell becomes the count of its one unknown flow, while there is such a cell.
 // It rests on marks for the words of ready cells, on list, and on hash for a flow's cells, over any layout.
+#![tactic(auto)]
+
 ghost use Rattle.std.specs.Prelude.{◌≡◌, ◌+◌, ◌-◌, ◌*◌, ◌<◌, ◌≤◌, length, get_or, replicate};
 ghost use Rattle.hash.specs.Places.{Within};
 ghost use Rattle.hash.specs.Salted.{after_salt};
@@ -133,7 +135,7 @@ fn tell_out(
 }
 
 // What one step of counting does: no cell is ready; 14 with the ready cell; a count is known.
-#[derive(Drop)]
+#[derive(Clone, Copy)]
 pub enum Step {
     Quiet,
     Damaged(usize),
@@ -199,7 +201,7 @@ pub fn count_step(
 }
 
 // How counting ended: no cell is ready, or 14 with the ready cell.
-#[derive(Drop)]
+#[derive(Clone, Copy)]
 pub enum Stop {
     Done,
     Damaged(usize),

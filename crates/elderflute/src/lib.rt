@@ -1,6 +1,8 @@
 // The library for C and Rust: every call of 01 under a name of its own, over numbers, pointers to a few numbers, and slices.
 // Each function makes one call of the crates below, `elderflute_lines` the report and the printed lines, and puts its answer into 01's number and what is
 // lent for the rest. It rests on packet, encoder, sealing, reading, session and printing for the calls.
+#![tactic(auto)]
+
 ghost use Rattle.std.specs.Prelude.{◌≡◌};
 ghost use Rattle.layout.specs.Sizes.{Ranged};
 ghost use Rattle.list.specs.Records.{records};

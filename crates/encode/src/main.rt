@@ -1,5 +1,7 @@
 // Makes an image from packets: a switch's part, for samples and tries. Standard input: kf, F, k, q (1 byte each), salt and slot (4 each, high byte first), then
 // packets, each after how often it is taken (4 bytes) and its length (2). Standard output: the image, or nothing and a line on standard error.
+#![tactic(auto)]
+
 ghost use Rattle.std.specs.Prelude.{◌≤◌, length};
 
 use encoder::{Started, Taken};

@@ -1,5 +1,7 @@
 // Taking packets: Algorithm 1 of document 000 with 01's hashing, over lent working memory.
 // It rests on packet for the key, filter for the flow's bits and cell for what a packet does to a cell.
+#![tactic(auto)]
+
 ghost use Rattle.std.specs.Prelude.{◌≡◌, ◌≤◌, length};
 ghost use Rattle.layout.specs.Sizes.{ipv4_layout, Lays, Ranged};
 ghost use Rattle.filter.specs.Filter.{InFilter};
@@ -12,7 +14,7 @@ use layout::{Layout, Sizes};
 use packet::Keyed;
 
 // What starting answers.
-#[derive(Drop)]
+#[derive(Clone, Copy)]
 pub enum Started {
     Done,
     BadSizes,
@@ -20,7 +22,7 @@ pub enum Started {
 }
 
 // What the packet call answers.
-#[derive(Drop)]
+#[derive(Clone, Copy)]
 pub enum Taken {
     Done,
     BadSizes,

@@ -1,4 +1,6 @@
 // How the settlings of an exchange ended, and whether it is over after a round. It rests on peeling for how one settling ended.
+#![tactic(auto)]
+
 ghost use Rattle.std.specs.Prelude.{◌≡◌};
 ghost use Rattle.peeling.specs.Peel.{listed_at};
 ghost use Rattle.ending.specs.Over.{ending_a, ending_b, round_of, is_over};
@@ -6,7 +8,7 @@ ghost use Rattle.ending.specs.Over.{ending_a, ending_b, round_of, is_over};
 use peeling::Stop;
 
 // How the settlings of both sessions ended: a 14 with the marked or ready cell.
-#[derive(Drop)]
+#[derive(Clone, Copy)]
 pub enum Ending {
     Settled,
     DamagedA(usize),
@@ -14,7 +16,7 @@ pub enum Ending {
 }
 
 // How many flows each session lists, how many keys were answered with 12, and how the settlings ended.
-#[derive(Drop)]
+#[derive(Clone, Copy)]
 pub struct Round {
     pub a: usize,
     pub b: usize,

@@ -1,5 +1,7 @@
 // Exchange of two sessions: the tests, the rounds, the answer.
 // Their room is lent together, one area of each kind, A's part first, then B's. It rests on parts for the tests of one session, on rounds, and on room for the numbers of a session.
+#![tactic(auto)]
+
 ghost use Rattle.std.specs.Prelude.{◌++◌, ◌≡◌, replicate};
 ghost use Rattle.layout.specs.Sizes.{Lays, ipv4_layout};
 ghost use Rattle.hash.specs.Salted.{after_salt};
@@ -26,7 +28,7 @@ use parts::Place;
 use room::Session;
 
 // What an exchange answers: the flows that each session then lists, and how many keys were answered with 12; for 14 also the cell.
-#[derive(Drop)]
+#[derive(Clone, Copy)]
 pub enum Exchanged {
     Done {
         a: usize,
@@ -51,7 +53,7 @@ pub enum Exchanged {
 }
 
 // What the tests of the call answer.
-#[derive(Drop)]
+#[derive(Clone, Copy)]
 enum Tested {
     Passed,
     NotSession,

@@ -1,4 +1,6 @@
 // Numbers and runs of bytes in lent byte slices: read, written, XORed in, copied, tested for zero. It rests on laws.
+#![tactic(auto)]
+
 ghost use Rattle.std.specs.Prelude.{◌≡◌, ◌+◌, ◌≤◌, length, take, replicate};
 ghost use Rattle.laws.specs.Xor.{xor_bytes};
 ghost use Rattle.laws.specs.Zeros.{all_zero};

@@ -1,4 +1,6 @@
 // The flow filter: bits in bytes, tested and set by shift and mask. It rests on hash for the bits of a flow.
+#![tactic(auto)]
+
 ghost use Rattle.std.specs.Prelude.{◌≡◌, List, ℕ, ◌≤◌, ◌<◌, ◌/◌, length, get_or};
 ghost use Rattle.filter.specs.Filter.{is_set, with_bit, any_clear, with_bits, InFilter};
 

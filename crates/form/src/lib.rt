@@ -1,4 +1,6 @@
 // The form of a block: its kind, sizes, number and zero bytes. It rests on block, fields and layout.
+#![tactic(auto)]
+
 ghost use Rattle.std.specs.Prelude.{◌≡◌, length};
 ghost use Rattle.layout.specs.Sizes.{Lays};
 ghost use Rattle.form.specs.Form.{sizes_in, same_sizes, kind_of, cells_formed};

@@ -1,5 +1,7 @@
 // Whether a key is among the found flows: only the listed keys of its bucket are compared. The bucket comes from a flow's first two cells.
 // It rests on list, on index and on hash, over any layout.
+#![tactic(auto)]
+
 ghost use Rattle.std.specs.Prelude.{◌≡◌, ◌*◌, ◌≤◌, length};
 ghost use Rattle.hash.specs.Places.{Within};
 ghost use Rattle.list.specs.Records.{is_listed};

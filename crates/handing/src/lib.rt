@@ -1,4 +1,6 @@
 // Hand-over of one key to a session that passed the test of 8. It rests on filter, on list, on found for listed keys, and on table for taking a key out.
+#![tactic(auto)]
+
 ghost use Rattle.std.specs.Prelude.{◌≡◌, ◌*◌, ◌≤◌, length};
 ghost use Rattle.laws.specs.Upto.{list_upto};
 ghost use Rattle.layout.specs.Sizes.{Lays, Ranged, table_cells, filter_bytes};
@@ -13,7 +15,7 @@ use hash::{Cells, Salted};
 use layout::{Layout, Sizes};
 
 // What a hand-over answers: taken out and listed, or why not.
-#[derive(Drop)]
+#[derive(Clone, Copy)]
 pub enum Handed {
     Taken,
     NotInFilter,

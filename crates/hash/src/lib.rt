@@ -1,5 +1,7 @@
 // FNV-1a of 32 bits and the places it chooses: a flow's cells and filter bits. It rests on layout and laws.
 // Four chains, or eight, run beside each other, over one key or over a slice each, since one chain alone waits for its multiply at every byte.
+#![tactic(auto)]
+
 ghost use Rattle.std.specs.Prelude.{◌≡◌, ◌∷◌, [], ◌+◌, ◌*◌, ◌≤◌, ◌<◌, length};
 ghost use Rattle.laws.specs.BigEndian.{bytes_of};
 ghost use Rattle.laws.specs.Upto.{list_upto};
@@ -12,7 +14,7 @@ ghost use Rattle.hash.specs.Places.{cell_of, bits_of};
 use layout::{Layout, Sizes};
 
 // The hash's state: a value that takes one byte and gives the next state.
-#[derive(Drop)]
+#[derive(Clone, Copy)]
 pub struct Fnv {
     pub state: u32,
 }
@@ -58,7 +60,7 @@ impl Fnv {
 }
 
 // Four chains.
-#[derive(Drop)]
+#[derive(Clone, Copy)]
 pub struct Lanes {
     pub a: Fnv,
     pub b: Fnv,
@@ -131,7 +133,7 @@ pub fn fnv_of_four(a: &[u8], b: &[u8], c: &[u8], d: &[u8]) -> Lanes
 
 // The states after salt and role, which a call makes once and hands on: the filter bits' hashes go on from one, the cells' from the other.
 // The salt itself goes beside them for the contracts alone.
-#[derive(Drop)]
+#[derive(Clone, Copy)]
 pub struct Salted {
     pub filter: Fnv,
     pub cells: Fnv,
@@ -169,7 +171,7 @@ fn hashes(f: Fnv, first: u8, key: &[u8]) -> Lanes
 }
 
 // Eight chains.
-#[derive(Drop)]
+#[derive(Clone, Copy)]
 struct Eight {
     low: Lanes,
     high: Lanes,
@@ -217,7 +219,7 @@ pub fn cell_of(l: Layout, z: Sizes, salt: u32, h: Salted, i: usize, key: &[u8]) 
 }
 
 // A flow's cells: the first k of four.
-#[derive(Drop)]
+#[derive(Clone, Copy)]
 pub struct Cells {
     pub at: [usize; 4],
 }
@@ -240,7 +242,7 @@ pub fn cells_of(l: Layout, z: Sizes, salt: u32, h: Salted, key: &[u8]) -> Cells
 }
 
 // Four places.
-#[derive(Drop)]
+#[derive(Clone, Copy)]
 struct Four {
     a: usize,
     b: usize,
@@ -249,7 +251,7 @@ struct Four {
 }
 
 // A flow's filter bits: the first kf of eight.
-#[derive(Drop)]
+#[derive(Clone, Copy)]
 pub struct Bits {
     pub at: [usize; 8],
 }

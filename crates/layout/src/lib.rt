@@ -1,5 +1,7 @@
 // The sizes of a flowset and the layout of its blocks, as values that every definition and function above is over.
 // A second layout (other key bytes, cell bytes, cells to a block, kinds) is another value, not another program. It rests on laws.
+#![tactic(auto)]
+
 ghost use Rattle.std.specs.Prelude.{◌≡◌};
 ghost use Rattle.layout.specs.Sizes.{
   in_range,
@@ -15,7 +17,7 @@ ghost use Rattle.layout.specs.Sizes.{
 };
 
 // How keys and cells lie in bytes: a cell is its key, a zero byte, FlowCount in 2 and PacketCount in 4 bytes, then what a layout adds.
-#[derive(Drop)]
+#[derive(Clone, Copy)]
 pub struct Layout {
     // bytes of a key
     pub key: usize,
@@ -30,7 +32,7 @@ pub struct Layout {
 }
 
 // 01's kf, F, k and q.
-#[derive(Drop)]
+#[derive(Clone, Copy)]
 pub struct Sizes {
     pub kf: usize,
     pub f: usize,

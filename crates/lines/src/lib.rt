@@ -1,5 +1,7 @@
 // The printed lines, written into a lent buffer from a place on. Each function answers the place after what it wrote.
 // It rests on packet for a key's five numbers and on summary for the report.
+#![tactic(auto)]
+
 ghost use Rattle.std.specs.Prelude.{◌≡◌, [], ◌∷◌, ◌+◌, ◌^◌, ◌≤◌, length};
 ghost use Rattle.lines.specs.Text.{Put, width, decimal, followed, dotted, endpoint, count_text};
 ghost use Rattle.lines.specs.Text.{flow_line, state_text, report_text, head_line, refused_line};

@@ -1,4 +1,6 @@
 // The found flows in three lent slices: keys one after the other, counts, flags. It rests on fields, over any layout.
+#![tactic(auto)]
+
 ghost use Rattle.std.specs.Prelude.{◌≡◌, ◌+◌, ◌*◌, ◌<◌, ◌≤◌, length, set};
 ghost use Rattle.list.specs.Records.{records, key_at, same_bytes, appended, known_at};
 

@@ -1,5 +1,7 @@
 // Opening a session: an image is read, its filter and cells are copied into lent room, the list is cleared, and marks and numbers are set right.
 // It rests on reading, on block for where a cell stands, on cell for the fields of a cell, on table for pure cells, and on room for the lengths.
+#![tactic(auto)]
+
 ghost use Rattle.std.specs.Prelude.{◌≡◌, ◌+◌, ◌*◌, ◌≤◌, length, replicate};
 ghost use Rattle.layout.specs.Sizes.{Lays, Ranged, table_cells, blocks, filter_bytes};
 ghost use Rattle.reading.specs.Read.{filter_in};
@@ -15,7 +17,7 @@ use reading::Reading;
 use room::Session;
 
 // What opening answers: the session, or why there is none.
-#[derive(Drop)]
+#[derive(Clone, Copy)]
 pub enum Opened {
     Open(Session),
     Length,

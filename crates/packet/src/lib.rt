@@ -1,11 +1,13 @@
 // From an IPv4 packet to its key, or to refusal 6; and a key as 13 bytes in network order, there and back.
 // It rests on fields, for the numbers in its bytes.
+#![tactic(auto)]
+
 ghost use Rattle.std.specs.Prelude.{◌≡◌, false, ◌+◌, ◌≤◌, length};
 ghost use Rattle.packet.specs.Key.{key_bytes, key_from};
 ghost use Rattle.packet.specs.Packet.{header_bytes, fragment_offset, has_ports, refused, port, key_in, key_of};
 
 // A key: the five numbers that name a flow.
-#[derive(Drop)]
+#[derive(Clone, Copy)]
 pub struct Key {
     pub source: u32,
     pub destination: u32,
@@ -15,7 +17,7 @@ pub struct Key {
 }
 
 // What a packet yields: the key of its flow, or refusal 6.
-#[derive(Drop)]
+#[derive(Clone, Copy)]
 pub enum Keyed {
     Flow(Key),
     Refused,

@@ -1,5 +1,7 @@
 // Exchange of two sessions of IPv4 keys, with the found flows of both lent as one slice of records, A's first, then B's.
 // It rests on exchange for the call over number slices, on records for the list apart and together, and on calls for the way there.
+#![tactic(auto)]
+
 ghost use Rattle.std.specs.Prelude.{◌≡◌, ◌≤◌};
 ghost use Rattle.list.specs.Records.{records};
 ghost use Rattle.table.specs.Table.{tab};

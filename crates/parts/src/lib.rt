@@ -1,5 +1,7 @@
 // Sessions that lie beside each other in lent room, one area of each kind: testing one, settling it, and handing it keys of another.
 // A part is named by the places where it begins and ends, so that one function serves every session. It rests on test8, settling and handing.
+#![tactic(auto)]
+
 ghost use Rattle.std.specs.Prelude.{◌≡◌, cond, [], ◌+◌, ◌-◌, ◌*◌, ◌≤◌, length, take, drop};
 ghost use Rattle.layout.specs.Sizes.{Lays, Ranged, table_cells};
 ghost use Rattle.hash.specs.Salted.{after_salt};
@@ -33,7 +35,7 @@ use layout::{Layout, Sizes};
 use peeling::Stop;
 
 // A place in each kind of area: in filter bytes, cells, FlowXOR bytes, mark words, records, their keys' bytes, and places of the index.
-#[derive(Drop)]
+#[derive(Clone, Copy)]
 pub struct Place {
     pub filter: usize,
     pub cells: usize,
@@ -45,7 +47,7 @@ pub struct Place {
 }
 
 // How many flows a session lists after keys were handed to it, and how many of the keys were answered with 12.
-#[derive(Drop)]
+#[derive(Clone, Copy)]
 pub struct Tally {
     pub listed: usize,
     pub twelves: usize,

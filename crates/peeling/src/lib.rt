@@ -1,5 +1,7 @@
 // Peeling: a key is taken out of its cells and listed, from the lowest marked cell, while there is one.
 // It rests on table for the cells, on found and index for listed keys, on list and on marks, over any layout.
+#![tactic(auto)]
+
 ghost use Rattle.std.specs.Prelude.{◌≡◌, ◌||◌, ◌*◌, ◌≤◌, length};
 ghost use Rattle.hash.specs.Places.{Within};
 ghost use Rattle.hash.specs.Salted.{after_salt};
@@ -33,7 +35,7 @@ fn is_damaged(
 }
 
 // What one step of peeling does: no cell is marked; 14 with the marked cell; a flow is taken out.
-#[derive(Drop)]
+#[derive(Clone, Copy)]
 pub enum Step {
     Quiet,
     Damaged(usize),
@@ -99,7 +101,7 @@ fn peel(
 }
 
 // How peeling ended: the flows that are then listed, and for 14 the marked cell.
-#[derive(Drop)]
+#[derive(Clone, Copy)]
 pub enum Stop {
     Done { listed: usize },
     Damaged { listed: usize, cell: usize },

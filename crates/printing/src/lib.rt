@@ -1,5 +1,7 @@
 // The printing program as a function from bytes to bytes: it opens the image that was read, settles the session and writes the lines.
 // It rests on session for the calls, on records for a listed flow's key and on lines for the bytes of a line.
+#![tactic(auto)]
+
 ghost use Rattle.std.specs.Prelude.{◌≡◌, ◌+◌, ◌*◌, ◌≤◌, ◌<◌, length};
 ghost use Rattle.std.proofs.lemmas.List.Edits.{sets};
 ghost use Rattle.laws.specs.Upto.{join_upto};

@@ -1,4 +1,6 @@
 // Reading: an image's sizes and salt, or the first refusal in 01's order. It rests on form, block, hash, fields and layout.
+#![tactic(auto)]
+
 ghost use Rattle.std.specs.Prelude.{◌≡◌, ◌-◌, ◌*◌, ◌≤◌, length};
 ghost use Rattle.layout.specs.Sizes.{Lays, Ranged, ipv4_layout, blocks};
 ghost use Rattle.reading.specs.Right.{right_blocks};
@@ -7,7 +9,7 @@ ghost use Rattle.reading.specs.Read.{bad_length, read_later, read_of};
 use layout::{Layout, Sizes};
 
 // What reading answers: the image's sizes and salt, or a refusal with its block.
-#[derive(Drop)]
+#[derive(Clone, Copy)]
 pub enum Reading {
     Image(Sizes, u32),
     Length,

@@ -1,5 +1,7 @@
 // The found flows as a lent slice of records: taken apart into the three number slices that the session's calls work on, and put together again.
 // It rests on list for how flows lie in number slices and on packet for a key's bytes. `read` and `put` alone touch an element.
+#![tactic(auto)]
+
 ghost use Rattle.std.specs.Prelude.{◌≡◌, ◌+◌, ◌*◌, ◌<◌, ◌≤◌, length, set};
 ghost use Rattle.layout.specs.Sizes.{ipv4_layout};
 ghost use Rattle.list.specs.Records.{records, key_at};
@@ -9,7 +11,7 @@ ghost use Rattle.records.specs.Record.{at, AllFit, Wide, flag_byte, stored, reco
 use packet::Key;
 
 // A found flow.
-#[derive(Drop)]
+#[derive(Clone, Copy)]
 pub struct Record {
     pub key: Key,
     pub count: u32,

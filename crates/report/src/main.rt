@@ -1,5 +1,7 @@
 // The printing program: standard input is the wanted slot and the image, and standard output the lines that `printing::print` writes.
 // An image has at most 40,960 bytes; one byte more is read, so that a longer input is seen as such.
+#![tactic(auto)]
+
 use libc::{STDIN_FILENO, STDOUT_FILENO};
 
 fn main() {

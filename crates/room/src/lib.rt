@@ -1,5 +1,7 @@
 // The room that is lent for a session, the numbers that go with it, and the test that its lengths are right.
 // It rests on layout, on table and list for how cells and found flows lie in slices, and on test8 for the rest of the test.
+#![tactic(auto)]
+
 ghost use Rattle.std.specs.Prelude.{◌≡◌, length};
 ghost use Rattle.layout.specs.Sizes.{Lays, Ranged};
 ghost use Rattle.list.specs.Records.{records};
@@ -9,7 +11,7 @@ ghost use Rattle.room.specs.Memory.{memory, table_fits, list_fits, room_fits};
 use layout::{Layout, Sizes};
 
 // What a session keeps by value: the image's sizes, salt and slot, and how many flows are listed.
-#[derive(Drop)]
+#[derive(Clone, Copy)]
 pub struct Session {
     pub sizes: Sizes,
     pub salt: u32,

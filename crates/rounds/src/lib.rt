@@ -1,5 +1,7 @@
 // The rounds of an exchange: each session hands its list to the other and both are settled, until a round in which neither list grew.
 // Their room is lent together, one area of each kind, A's part first, then B's. It rests on parts for what is done to one session, and on ending for how it ends.
+#![tactic(auto)]
+
 ghost use Rattle.std.specs.Prelude.{◌≡◌, ◌≤◌, length};
 ghost use Rattle.hash.specs.Salted.{after_salt};
 ghost use Rattle.list.specs.Records.{records};

@@ -1,4 +1,6 @@
 // Sealing: the blocks of an image are written, or nothing is. It rests on block, fields and layout.
+#![tactic(auto)]
+
 ghost use Rattle.std.specs.Prelude.{◌≡◌, true, ◌++◌, ◌+◌, ◌*◌, ◌≤◌, ◌<◌, length, take, drop, replicate};
 ghost use Rattle.laws.specs.Upto.{join_upto};
 ghost use Rattle.layout.specs.Sizes.{Lays, Ranged, ipv4_layout};
@@ -8,7 +10,7 @@ ghost use Rattle.sealing.specs.Seal.{seal_rooms, sealing, seal_of};
 use layout::{Layout, Sizes};
 
 // What sealing answers.
-#[derive(Drop)]
+#[derive(Clone, Copy)]
 pub enum Sealed {
     Done,
     BadSizes,

@@ -1,5 +1,7 @@
 // The calls on a single-switch session of IPv4 keys, over lent slices: open, hand-over, settle, report. Each answers for every input.
 // It rests on opening, handing, settling and summary for what the calls do, and on room and test8 for what they refuse.
+#![tactic(auto)]
+
 ghost use Rattle.std.specs.Prelude.{◌≡◌, ◌≤◌, length};
 ghost use Rattle.layout.specs.Sizes.{Lays, ipv4_layout};
 ghost use Rattle.hash.specs.Salted.{after_salt};
@@ -23,7 +25,7 @@ use room::Session;
 use summary::Report;
 
 // What the tests of every call answer.
-#[derive(Drop)]
+#[derive(Clone, Copy)]
 enum Tested {
     Passed,
     NotSession,
@@ -31,7 +33,7 @@ enum Tested {
 }
 
 // What a hand-over answers: how many flows are then listed, or why the key was not taken out.
-#[derive(Drop)]
+#[derive(Clone, Copy)]
 pub enum HandOver {
     Done { listed: usize },
     NotSession,
@@ -43,7 +45,7 @@ pub enum HandOver {
 }
 
 // What settling answers: how many flows are then listed, and where it stopped; or why it did not begin.
-#[derive(Drop)]
+#[derive(Clone, Copy)]
 pub enum Settled {
     Done { listed: usize },
     Damaged { listed: usize, cell: usize },
@@ -52,7 +54,7 @@ pub enum Settled {
 }
 
 // What the report call answers.
-#[derive(Drop)]
+#[derive(Clone, Copy)]
 pub enum Reported {
     Told(Report),
     NotSession,

@@ -1,4 +1,6 @@
 // Settling: peeling while a cell is marked, then counting while a cell is ready. It rests on peeling and counting.
+#![tactic(auto)]
+
 ghost use Rattle.std.specs.Prelude.{◌≡◌, length};
 ghost use Rattle.layout.specs.Sizes.{table_cells};
 ghost use Rattle.hash.specs.Salted.{after_salt};

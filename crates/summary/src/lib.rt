@@ -1,11 +1,13 @@
 // The report of a session: what is listed, counted and open, worked out anew from list and cells, and the state that they and what is left make.
 // It rests on test8, which counts flags and open cells, and on fields for FlowXOR.
+#![tactic(auto)]
+
 ghost use Rattle.std.specs.Prelude.{◌≡◌, ◌≤◌, length};
 ghost use Rattle.laws.specs.Zeros.{all_zero};
 ghost use Rattle.summary.specs.Report.{nothing_left, state_of, report_of};
 
 // Stuck where a cell is open; else short where an unknown count remains; else stray where something is left in a cell; else whole.
-#[derive(Drop)]
+#[derive(Clone, Copy)]
 pub enum State {
     Stuck,
     Short,
@@ -13,7 +15,7 @@ pub enum State {
     Whole,
 }
 
-#[derive(Drop)]
+#[derive(Clone, Copy)]
 pub struct Report {
     pub listed: usize,
     pub counted: usize,

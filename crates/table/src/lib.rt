@@ -1,5 +1,7 @@
 // The table of a session: whether a cell is pure, and a key taken out of its cells.
 // It rests on marks, on fields for FlowXOR and on hash for a flow's cells, over any layout.
+#![tactic(auto)]
+
 ghost use Rattle.std.specs.Prelude.{◌≡◌, ◌-◌, ◌<◌, ◌≤◌, length};
 ghost use Rattle.laws.specs.Upto.{list_upto};
 ghost use Rattle.layout.specs.Sizes.{Lays, Ranged};

@@ -1,4 +1,6 @@
 // What a test program needs: writing a line piece by piece, and filling buffers from a generator. It rests on laws and the toolchain's io.
+#![tactic(auto)]
+
 ghost use Rattle.std.specs.Prelude.{◌≡◌, min, length};
 ghost use Rattle.telling.specs.Generator.{next_number, after_numbers, random_bytes};
 

@@ -1,5 +1,7 @@
 // The test of 8: whether lent memory is a session, all of it worked out anew from cells and list, in one pass over each.
 // It rests on list and marks, on hash for a flow's cells, on table for pure cells, and on found and index for listed flows.
+#![tactic(auto)]
+
 ghost use Rattle.std.specs.Prelude.{◌≡◌, ◌+◌, ◌-◌, ◌*◌, ◌<◌, ◌≤◌, ◌&&◌, ◌||◌, leb, length, if◌then◌else◌, ◌==◌, nat_eq, nat_le, slice_index};
 ghost use Rattle.laws.specs.Upto.{any_upto, all_upto, number_upto};
 ghost use Rattle.layout.specs.Sizes.{Lays, Ranged, table_cells};

@@ -1,5 +1,7 @@
 // A program for tests: it reads requests on standard input, makes the call that each names, and writes a line with all that the call left.
 // tests/independent answers the same requests by code of its own, and compares. tests/PROTOCOL.md has the requests.
+#![tactic(auto)]
+
 ghost use Rattle.std.specs.Prelude.{◌≤◌, length};
 
 use encoder::{Started, Taken};

@@ -1,0 +1,14 @@
+-- `fields::xor_in` meets its contract.
+use mathlib.Core.Path.{◌≡◌, refl, sym, ◌∙◌}
+use Prim.Native.Nat.{◌≤◌, ◌-◌}
+use native.Mathlib.Omega.{arith}
+use native.Mathlib.Numerals.{add-one}
+use lib.ListN.{length, length-set}
+use Rattle.fields.proofs.Runs.{xor_upto, xor-none, xor-turn, xor-whole}
+use Rattle.fields.proofs.xor_in.Given as goal
+
+abbrev pub invariant-loop-i : goal.invariant-loop-i
+invariant-loop-i l = (length l.s ≡ length l.initial.s) × (l.i ≤ length l.bytes) × (l.s ≡ xor_upto l.i l.initial.s l.bytes)
+
+abbrev pub decreases-loop-i : goal.decreases-loop-i
+decreases-loop-i l = length l.bytes - l.i
