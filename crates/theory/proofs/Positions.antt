@@ -1,5 +1,5 @@
 -- The number of unknown flows in a cell and the XOR of their positions, as the list changes; one unknown flow stands at that XOR.
-use mathlib.Core.Path.{◌≡◌, refl, sym, ap, ◌∙◌}
+use mathlib.Core.Path.{◌≡◌, refl, sym, ap, ap₂, ◌∙◌}
 use mathlib.Core.Logic.{inl, inr}
 use mathlib.Core.Bool.{Bool, true, false, not, cond, ◌&&◌}
 use mathlib.Core.List.{List, [], ◌∷◌, ◌++◌}
@@ -10,7 +10,7 @@ use lib.ListN.{length, get_or}
 use Rattle.laws.proofs.Bools.{split, or-fl, or-fr}
 use Rattle.laws.proofs.Xor.{xor_assoc, xor-swap, xor-undo}
 use Rattle.theory.specs.Encode.{Key, same_key, among, Distinct, sum_over, count}
-use Rattle.theory.specs.Session.{Record, keys_of, keys_where, unknowns_of, first, new_record, with_count}
+use Rattle.theory.specs.Session.{Record, keys_of, keys_where, unknowns_of, first, new_record, told_record, with_count}
 use Rattle.theory.specs.Notes.{positions_from, tell_at}
 use Rattle.theory.proofs.Flow.{same_refl, same-flip, among-here, among_there, among-other}
 
@@ -99,11 +99,15 @@ with_count-none x v (r ∷ rs) m = rw (
   with_count-none x v rs (or-fr (same_key x r.key) (among x (keys_of rs)) m),
 )
 
+first-told : (v : ℕ) (r : Record) (rs : List Record) → among r.key (keys_of rs) ≡ false → with_count r.key v (r ∷ rs) ≡ tell_at zero v (r ∷ rs)
+unfolding with_count tell_at
+first-told v r rs m = ap₂ (λ one rest. cond one (told_record r v) r ∷ rest) (same_refl r.key) (with_count-none r.key v rs m)
+
 pub with_count-at : (x : Key) (v : ℕ) (rs : List Record) → Distinct (keys_of rs) → (j : ℕ) → j < length rs → (get_or rs j blank).key ≡ x
     → with_count x v rs ≡ tell_at j v rs
 unfolding with_count keys_of Distinct tell_at
 with_count-at x v [] d j h e = absurd (omega arith)
-with_count-at x v (r ∷ rs) d zero h e = rw (sym e, same_refl r.key, with_count-none r.key v rs d.0)
+with_count-at x v (r ∷ rs) d zero h e = subst (λ y. with_count y v (r ∷ rs) ≡ tell_at zero v (r ∷ rs)) e (first-told v r rs d.0)
 with_count-at x v (r ∷ rs) d (suc j) h e =
     rw (
       same-flip x r.key (among-other x r.key (keys_of rs) (sym (ap (λ t. among t (keys_of rs)) e) ∙ key-among rs j (omega arith)) d.0),

@@ -1,0 +1,20 @@
+-- `cell::flow_count` meets its contract.
+use Rattle.cell.specs.Cell.{flow_count_at}
+use Rattle.std.proofs.Common.{rules}
+use Rattle.cell.proofs.flow_count.Goals as goal
+
+pub overflow_mul-c : goal.overflow_mul-c
+overflow_mul-c c = search rules
+
+pub overflow_add-c : goal.overflow_add-c
+overflow_add-c c = search rules
+
+pub overflow_add-c-2 : goal.overflow_add-c-2
+overflow_add-c-2 c = search rules
+
+pub short_at-requires : goal.short_at-requires
+short_at-requires c = search rules
+
+pub returns : goal.returns
+unfolding flow_count_at
+returns c = c.short_at.ensures

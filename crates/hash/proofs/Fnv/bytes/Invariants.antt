@@ -1,0 +1,15 @@
+-- `hash::Fnv::bytes` meets its contract.
+use mathlib.Core.Path.{◌≡◌, refl}
+use Prim.Native.Nat.{◌≤◌, ◌-◌}
+use native.Mathlib.Omega.{arith}
+use borrow.Author.Rules.{rules}
+use lib.ListN.{length, drop}
+use Rattle.hash.specs.Fnv.{absorb}
+use Rattle.hash.proofs.Chain.{absorb-more, absorb-none}
+use Rattle.hash.proofs.Fnv.bytes.Given as goal
+
+abbrev pub invariant-loop-i : goal.invariant-loop-i
+invariant-loop-i l = (l.i ≤ length l.s) × (absorb l.f.state (drop l.i l.s) ≡ absorb l.initial.f.state l.s)
+
+abbrev pub decreases-loop-i : goal.decreases-loop-i
+decreases-loop-i l = length l.s - l.i
