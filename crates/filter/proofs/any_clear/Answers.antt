@@ -28,7 +28,7 @@ returns-then-not-bit_is_set c =
     sym (any-yes c.args.kf
     (λ i. not (is_set c.args.filter.now
     (get_or c.args.bits.at i 0))) c.loop-i.i (omega arith)
-    (ap not (sym c.bit_is_set.ensures) ∙ c.if-not-bit_is_set.true))
+    (ap not (sym c.bit_is_set.ensures ∙ c.if-not-bit_is_set.true)))
 
 pub overflow_add-i : goal.overflow_add-i
 overflow_add-i c = omega arith
@@ -43,7 +43,7 @@ loop-i-preserved c = (
   any-more c.loop-i.i
       (λ i. not (is_set c.args.filter.now
       (get_or c.args.bits.at i 0))) ∙ rw c.loop-i.invariant.1
-      (ap not (sym c.bit_is_set.ensures) ∙ c.if-not-bit_is_set.false),
+      (ap not (sym c.bit_is_set.ensures ∙ c.if-not-bit_is_set.false)),
 )
 
 pub returns : goal.returns
