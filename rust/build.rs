@@ -1,5 +1,5 @@
 //! Finds libelderflute.a: in the folder that ELDERFLUTE_LIB_DIR names, in the prefix that this package was installed to (PREFIX/share/elderflute/rust),
-//! in the checkout that this package stands in (target/host, target/staticlib), or by pkg-config.
+//! in the checkout that this package stands in (target/staticlib), or by pkg-config.
 
 use std::path::{Path, PathBuf};
 use std::process::Command;
@@ -21,13 +21,7 @@ fn folder() -> Option<PathBuf> {
         return Some(PathBuf::from(named));
     }
     let package = PathBuf::from(std::env::var_os("CARGO_MANIFEST_DIR")?);
-    // the archive of `rt staticlib` is for x86-64; target/host has it for this machine
-    let checkout = if std::env::var("CARGO_CFG_TARGET_ARCH").is_ok_and(|name| name == "x86_64") {
-        "../target/staticlib"
-    } else {
-        "../target/host"
-    };
-    let near = ["../../../lib", checkout].map(|folder| package.join(folder));
+    let near = ["../../../lib", "../target/staticlib"].map(|folder| package.join(folder));
     near.into_iter().find(|folder| has_library(folder)).or_else(by_pkg_config)
 }
 
