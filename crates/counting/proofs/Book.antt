@@ -3,7 +3,6 @@ use mathlib.Core.Path.{◌≡◌, refl, sym, ap, ◌∙◌}
 use mathlib.Core.Bool.{Bool, true, false, cond}
 use mathlib.Core.List.{List}
 use Prim.Native.Nat.{ℕ, ◌+◌, ◌-◌}
-use native.Mathlib.Omega.{arith}
 use lib.Bits.{bit_xor}
 use lib.Dec.{ltb}
 use lib.ListN.{length, get_or, set, length-set, replicate}
@@ -11,7 +10,7 @@ use Rattle.laws.specs.Upto.{list_upto}
 use Rattle.laws.proofs.Upto.{each_more, each_keeps, any_at, steps-at}
 use Rattle.layout.specs.declared.Layout.{Layout}
 use Rattle.layout.specs.declared.Sizes.{Sizes}
-use Rattle.layout.specs.Sizes.{Lays, Ranged, table_cells}
+use Rattle.layout.specs.Sizes.{Ranged}
 use Rattle.hash.specs.Places.{cell_of}
 use Rattle.marks.specs.Marks.{put_mark}
 use Rattle.marks.proofs.Laws.{length-put}

@@ -1,11 +1,9 @@
 -- Counting step after step, as the loop goes.
 use mathlib.Core.Path.{◌≡◌, refl, sym, ap, subst, ◌∙◌}
-use mathlib.Core.List.{List, [], ◌∷◌}
-use mathlib.Core.Logic.{⊎_elim, ◌⊎◌, inl, inr}
+use mathlib.Core.List.{List}
+use mathlib.Core.Logic.{inl, inr}
 use Prim.Native.Nat.{ℕ, zero, suc, ◌-◌, ◌*◌, ◌<◌, ◌≤◌}
 use native.Mathlib.Omega.{arith}
-use types.Run.{OneOf}
-use denote.Enum.Declared.{tag_of}
 use lib.Dec.{ltb}
 use lib.ListN.{length, get_or, replicate}
 use Rattle.laws.proofs.Bools.{split}
@@ -20,7 +18,6 @@ use Rattle.counting.specs.Count.{Fits, Counted, counted, count_damaged, count_at
 use Rattle.counting.specs.declared.Step.{Step}
 use Rattle.counting.specs.declared.Step.TheVariants.{Quiet, Damaged, Next}
 use Rattle.counting.specs.declared.Stop.{Stop}
-use Rattle.counting.specs.contracts.Step as step
 use Rattle.counting.proofs.Book.{length-upto}
 use Rattle.counting.proofs.Answers.{fits-step}
 
@@ -53,12 +50,12 @@ going l z salt n flows packets unknowns positions rs {ready} {cells} f s e = rec
 }
 
 -- a step that is not a count ends it
-stops : (more : Book → Records → Ended) (s : Step) (b : Book) (rs : Records) → OneOf (0 ∷ 1 ∷ []) (tag_of step.the_type s)
+stops : (more : Book → Records → Ended) (s : Step) (b : Book) (rs : Records) → (s ≡ Next → ⊥)
     → ended_at s b rs ≡ after_count more s b rs
 unfolding after_count
 stops more Quiet b rs h = refl
 stops more (Damaged c) b rs h = refl
-stops more Next b rs h = absurd (⊎_elim (λ e. omega arith) (λ e. omega arith) h)
+stops more Next b rs h = absurd (h refl)
 
 pub going_done : {l : Layout} {z : Sizes} {salt n : ℕ} {flows : List ℕ} {m : ℕ} {b : Book} {rs : Records} {end : Ended}
     → Going l z salt n flows m b rs end → m ≤ 0
@@ -84,7 +81,7 @@ module _ {l : Layout} {z : Sizes} {salt n : ℕ} {flows : List ℕ} {m : ℕ} {b
     goes = (rw e at follows);
   }
 
-  pub going-stop : {r : Stop} → OneOf (0 ∷ 1 ∷ []) (tag_of step.the_type s) → r ≡ stop_at s → ended r b'.packets b'.unknowns
+  pub going-stop : {r : Stop} → (s ≡ Next → ⊥) → r ≡ stop_at s → ended r b'.packets b'.unknowns
       b'.positions rs' ≡ end
   going-stop k e =
       ap (λ (x : Stop). ended x b'.packets b'.unknowns b'.positions rs') e

@@ -1,9 +1,9 @@
 -- One count step, and counting while a cell is ready: 01 'A session', Settle and Damage.
-use Rattle.std.specs.Prelude.{Bool, cond, ◌||◌, List, ℕ, zero, suc, ◌-◌, ◌*◌, ◌≤◌, ltb, leb, eqb, get_or}
+use Rattle.std.specs.Prelude.{Bool, cond, ◌||◌, List, ℕ, zero, suc, ◌*◌, ◌≤◌, ltb, leb, eqb, get_or}
 use Rattle.layout.specs.declared.Layout.{Layout}
 use Rattle.layout.specs.declared.Sizes.{Sizes}
 use Rattle.layout.specs.Sizes.{Lays, Ranged, table_cells}
-use Rattle.list.specs.Records.{Records, records, Room, key_at, with_count}
+use Rattle.list.specs.Records.{Records, Room, key_at, with_count}
 use Rattle.marks.specs.Marks.{first_mark}
 use Rattle.counting.specs.Book.{Book, book, Spans, exceeds, told_out, ready_upto}
 use Rattle.counting.specs.declared.Step.{Step}

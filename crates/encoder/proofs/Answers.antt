@@ -1,6 +1,6 @@
 -- Each way out of the encoder's functions, over plain values; and the code's list of places is the flow's.
 use mathlib.Core.Path.{◌≡◌, refl, sym, ap, ◌∙◌}
-use mathlib.Core.Bool.{Bool, true, false, not}
+use mathlib.Core.Bool.{Bool, true, false}
 use mathlib.Core.List.{List}
 use Prim.Native.Nat.{ℕ, ◌+◌, ◌<◌}
 use native.Mathlib.Nat.{mul-le-mul, add-mul}
@@ -59,11 +59,11 @@ unfolding rooms_fit
 rooms-cells l z filter cells h = rw (eq-eqb filter (filter_bytes z) h)
 
 -- the code's test of the lengths, where its layout is the IPv4 one
-pub room-held : (z : Sizes) (filter cells : ℕ) {l : Layout} {t : Bool} → l ≡ ipv4_layout → t ≡ rooms_fit l z filter cells → not t ≡ false
+pub room-held : (z : Sizes) (filter cells : ℕ) {l : Layout} {t : Bool} → l ≡ ipv4_layout → t ≡ rooms_fit l z filter cells → t ≡ true
     → rooms_fit ipv4_layout z filter cells ≡ true
 room-held z filter cells e r h = held (r ∙ ap (λ l. rooms_fit l z filter cells) e) h
 
-pub room-failed : (z : Sizes) (filter cells : ℕ) {l : Layout} {t : Bool} → l ≡ ipv4_layout → t ≡ rooms_fit l z filter cells → not t ≡ true
+pub room-failed : (z : Sizes) (filter cells : ℕ) {l : Layout} {t : Bool} → l ≡ ipv4_layout → t ≡ rooms_fit l z filter cells → t ≡ false
     → rooms_fit ipv4_layout z filter cells ≡ false
 room-failed z filter cells e r h = failed (r ∙ ap (λ l. rooms_fit l z filter cells) e) h
 

@@ -1,11 +1,8 @@
 -- Peeling step after step, as the loop goes.
 use mathlib.Core.Path.{◌≡◌, refl, sym, ap, subst, ◌∙◌}
-use mathlib.Core.List.{List, [], ◌∷◌}
-use mathlib.Core.Logic.{⊎_elim, ◌⊎◌}
+use mathlib.Core.List.{List}
 use Prim.Native.Nat.{ℕ, zero, suc, ◌+◌, ◌-◌, ◌*◌, ◌<◌}
 use native.Mathlib.Omega.{arith}
-use types.Run.{OneOf}
-use denote.Enum.Declared.{tag_of}
 use Rattle.layout.specs.declared.Layout.{Layout}
 use Rattle.layout.specs.declared.Sizes.{Sizes}
 use Rattle.layout.specs.Sizes.{table_cells}
@@ -15,7 +12,6 @@ use Rattle.peeling.specs.Peel.{Fits, Steady, Peeled, peeled, peel_of, Ended, end
 use Rattle.peeling.specs.declared.Step.{Step}
 use Rattle.peeling.specs.declared.Step.TheVariants.{Quiet, Damaged, Next}
 use Rattle.peeling.specs.declared.Stop.{Stop}
-use Rattle.peeling.specs.contracts.Step as step
 use Rattle.peeling.proofs.Answers.{listed_after, fits-step, has_room, bounded-step}
 
 -- m flows are listed, and peeling goes on from here as it does from the start
@@ -24,13 +20,12 @@ pub record Going (l : Layout) (z : Sizes) (salt m : ℕ) (t : Tab) (rs : Records
   pub goes : peels_of l z salt m t rs seen ≡ end
 
 -- a step that is not a peel ends it
-stops : (more : Tab → Records → List ℕ → Ended) (m : ℕ) (s : Step) (t : Tab) (rs : Records) (seen : List ℕ) → OneOf (0 ∷ 1 ∷ [])
-    (tag_of step.the_type s)
+stops : (more : Tab → Records → List ℕ → Ended) (m : ℕ) (s : Step) (t : Tab) (rs : Records) (seen : List ℕ) → (s ≡ Next → ⊥)
     → ended (stop_at m s) t rs seen ≡ after_peel more m s t rs seen
 unfolding after_peel
 stops more m Quiet t rs seen h = refl
 stops more m (Damaged c) t rs seen h = refl
-stops more m Next t rs seen h = absurd (⊎_elim (λ e. omega arith) (λ e. omega arith) h)
+stops more m Next t rs seen h = absurd (h refl)
 
 module _ {l : Layout} {z : Sizes} {salt m : ℕ} {t : Tab} {rs : Records} {seen : List ℕ} {end : Ended} (g : Going l z salt m t rs seen end)
     {s : Step} {t' : Tab} {rs' : Records} {seen' : List ℕ} (p : peeled s t' rs' seen' ≡ peel_of l z salt m t rs seen) where
@@ -62,7 +57,7 @@ module _ {l : Layout} {z : Sizes} {salt m : ℕ} {t : Tab} {rs : Records} {seen 
       let left : 2 * table_cells l z - m ≡ suc (2 * table_cells l z - (m + 1)) = (let h = going-room e in omega arith) in
       record { steady = record { fits = next_fits e; bounded = (rw e at step-bounded) }; goes = (rw (e, left) at follows) }
 
-  pub going-stop : {r : Stop} → OneOf (0 ∷ 1 ∷ []) (tag_of step.the_type s) → r ≡ stop_at m s → ended r t' rs' seen' ≡ end
+  pub going-stop : {r : Stop} → (s ≡ Next → ⊥) → r ≡ stop_at m s → ended r t' rs' seen' ≡ end
   going-stop h e =
       ap (λ (x : Stop). ended x t' rs' seen') e
       ∙ stops (peels_upto (2 * table_cells l z - m) l z salt (m + 1)) m s t' rs' seen' h ∙ follows

@@ -4,7 +4,7 @@ use Rattle.std.specs.Prelude.{◌≡◌, Bool, ◌&&◌, List, ℕ, ◌*◌, eqb
 use Rattle.layout.specs.declared.Layout.{Layout}
 use Rattle.layout.specs.declared.Sizes.{Sizes}
 use Rattle.layout.specs.Sizes.{table_cells, filter_bytes}
-use Rattle.list.specs.Records.{Records, records, Room}
+use Rattle.list.specs.Records.{Records, Room}
 use Rattle.marks.specs.Marks.{words_for}
 use Rattle.table.specs.Table.{Tab, Fit}
 

@@ -1,10 +1,7 @@
 -- Peeling, then counting: what the code's two calls leave is what the definition says.
 use mathlib.Core.Path.{◌≡◌, refl, sym, ap, subst, ◌∙◌}
-use mathlib.Core.List.{List, [], ◌∷◌}
+use mathlib.Core.List.{List}
 use Prim.Native.Nat.{ℕ}
-use native.Mathlib.Omega.{arith}
-use types.Run.{OneOf}
-use denote.Enum.Declared.{tag_of}
 use lib.ListN.{length, replicate}
 use Rattle.layout.specs.declared.Layout.{Layout}
 use Rattle.layout.specs.declared.Sizes.{Sizes}
@@ -17,7 +14,6 @@ use Rattle.table.proofs.Bounds.{bounded-counted}
 use Rattle.peeling.specs.Peel.{Fits, Steady, Ended, ended, peels_of, listed_at}
 use Rattle.peeling.specs.declared.Stop.{Stop}
 use Rattle.peeling.specs.declared.Stop.TheVariants.{Done, Damaged}
-use Rattle.peeling.specs.contracts.Stop as stop
 use Rattle.peeling.proofs.Loop.{ended-keeps}
 use Rattle.counting.specs.Book.{book}
 use Rattle.counting.specs.Count as counts
@@ -27,11 +23,10 @@ use Rattle.counting.proofs.Loop as counting-last
 use Rattle.settling.specs.Settle.{Settled, settled, stop_after, after_counts, then_counts, settle_of}
 
 -- a 14 while peeling ends it
-others : (l : Layout) (z : Sizes) (salt : ℕ) (packets : List ℕ) (t : Tab) (rs : Records) (seen : List ℕ) (r : Stop) → OneOf (1 ∷ [])
-    (tag_of stop.the_type r)
+others : (l : Layout) (z : Sizes) (salt : ℕ) (packets : List ℕ) (t : Tab) (rs : Records) (seen : List ℕ) (r : Stop) → ((n : ℕ) → r ≡ Done n → ⊥)
     → settled r t packets rs seen ≡ then_counts l z salt packets t rs seen r
 unfolding then_counts
-others l z salt packets t rs seen (Done n) h = absurd (omega (arith, h))
+others l z salt packets t rs seen (Done n) h = absurd (h n refl)
 others l z salt packets t rs seen (Damaged n c) h = refl
 
 -- what fits for peeling fits for counting
@@ -60,7 +55,7 @@ module _ (l : Layout) (z : Sizes) (salt n : ℕ) (t : Tab) (packets : List ℕ) 
   unfolding settle_of
   then_is = ap (λ (x : Ended). then_counts l z salt packets x.table x.list x.seen x.answer) p
 
-  pub settle-stopped : OneOf (1 ∷ []) (tag_of stop.the_type r) → settled r t' packets rs' seen' ≡ settle_of l z salt n t packets rs seen
+  pub settle-stopped : ((m : ℕ) → r ≡ Done m → ⊥) → settled r t' packets rs' seen' ≡ settle_of l z salt n t packets rs seen
   settle-stopped h = others l z salt packets t' rs' seen' r h ∙ then_is
 
   module _ {m : ℕ} (e : r ≡ Done m) where

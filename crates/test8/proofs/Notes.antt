@@ -1,6 +1,5 @@
 -- The two numbers of each cell and the index, as one pass over the list leaves them, are what cells and list give.
-use Rattle.std.proofs.Common.{◌≡◌, ℕ, zero, suc, ◌+◌, ◌*◌, ◌/◌, ◌^◌, ◌<◌, ◌≤◌, Bool, true, cond, not, ◌||◌, List, length, get_or, set, replicate, sym, refl, ap, ◌∙◌, subst, inl, inr, div-mul-le_self, add-one, arith}
-use native.Mathlib.Decide.{ℕ_discrete}
+use Rattle.std.proofs.Common.{◌≡◌, ℕ, zero, suc, ◌+◌, ◌/◌, ◌^◌, ◌<◌, ◌≤◌, Bool, cond, ◌||◌, List, length, get_or, set, replicate, sym, refl, ap, ◌∙◌, subst, inl, inr, div-mul-le_self, add-one, arith}
 use native.Mathlib.Nat.{lt-div-mul-add}
 use lib.ListN.{length-replicate}
 use Rattle.laws.specs.Upto.{each_upto, list_upto}

@@ -1,5 +1,5 @@
 -- What callers learn of memory that passes the test, fact by fact; and memory just opened passes it.
-use Rattle.std.proofs.Common.{◌≡◌, ℕ, ◌+◌, ◌-◌, ◌*◌, ◌≤◌, Bool, true, false, eqb, ltb, leb, List, get_or, replicate, sym, arith, ltb-false, le-ltb, eq-eqb, le-leb, leb-true}
+use Rattle.std.proofs.Common.{◌≡◌, ℕ, ◌+◌, ◌*◌, ◌≤◌, Bool, true, false, eqb, ltb, leb, List, get_or, replicate, sym, arith, ltb-false, le-ltb, eq-eqb, le-leb, leb-true}
 use Rattle.laws.specs.Upto.{any_upto, each_upto, number_upto}
 use Rattle.laws.proofs.Bools.{and_l, and_r, not_t}
 use Rattle.laws.proofs.Lists.{zero-at}

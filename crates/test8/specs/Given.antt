@@ -1,5 +1,5 @@
 -- What the test works out anew: the flags of a record, the per-cell numbers that a list gives, and the index of its keys.
-use Rattle.std.specs.Prelude.{ℕ, ◌+◌, ◌%◌, ◌^◌, Bool, true, cond, List, ◌==◌, bit_xor, slice_index, slice_set}
+use Rattle.std.specs.Prelude.{ℕ, ◌+◌, ◌%◌, ◌^◌, Bool, cond, List, ◌==◌, bit_xor, slice_index, slice_set}
 use Rattle.laws.specs.Digit.{digit}
 use Rattle.laws.specs.Upto.{each_upto}
 use Rattle.layout.specs.declared.Layout.{Layout}

@@ -1,12 +1,7 @@
 -- `encoder::any_full` meets its contract.
-use mathlib.Core.Path.{◌≡◌, refl, sym, ap, ◌∙◌}
+use mathlib.Core.Path.{◌≡◌}
 use mathlib.Core.Bool.{false}
 use Prim.Native.Nat.{◌≤◌, ◌-◌}
-use native.Mathlib.Omega.{arith}
-use lib.ListN.{get_or}
-use Rattle.laws.specs.Upto.{any_upto}
-use Rattle.laws.proofs.Upto.{any-yes, any-more}
-use Rattle.encoder.specs.Encoder.{full_at}
 use Rattle.encoder.specs.Loops.{any_full}
 use Rattle.encoder.proofs.any_full.Given as goal
 

@@ -1,12 +1,11 @@
 -- `encoder::note_flow` meets its contract.
-use borrow.Author.Tests.{not-true, not-false}
 use Rattle.encoder.specs.Loops.{noted}
 use borrow.Author.Rules.{rules}
 use Rattle.encoder.proofs.note_flow.Goals as goal
 
 pub returns-then-not-new : goal.returns-then-not-new
 unfolding noted
-returns-then-not-new c = rw (not-true c.args.new c.if-not-new.true)
+returns-then-not-new c = rw c.if-not-new.true
 
 pub set_all-requires : goal.set_all-requires
 set_all-requires c = search rules
@@ -16,5 +15,5 @@ shape_of-filter c = search rules
 
 pub returns : goal.returns
 unfolding noted
-returns c = rw (not-false c.args.new c.if-not-new.false)
+returns c = rw c.if-not-new.false
     c.set_all.ensures

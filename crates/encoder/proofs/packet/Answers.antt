@@ -40,12 +40,6 @@ returns-then-not-rooms_fit c =
 pub key_of-requires : goal.key_of-requires
 key_of-requires c = search rules
 
-pub enum_known-key : goal.enum_known-key
-enum_known-key c = search rules
-
-pub enum_told-1 : goal.enum_told-1
-enum_told-1 c = search rules
-
 pub returns-in_default : goal.returns-in_default
 returns-in_default c =
     let d = c in
@@ -55,7 +49,7 @@ returns-in_default c =
     d.if-not-in_range.false)
     (room-held a.z (length a.filter.now) (length a.cells.now) d.ipv4.ensures
     d.rooms_fit.ensures d.if-not-rooms_fit.false)
-    (sym c.key_of.ensures ∙ c.enum_told-1.given.1)
+    (sym c.key_of.ensures ∙ c.in_default.is)
 
 pub key_bytes-bytes-requires : goal.key_bytes-bytes-requires
 key_bytes-bytes-requires c = search rules
@@ -100,8 +94,7 @@ returns c =
     (room-held a.z (length a.filter.now) (length a.cells.now)
     d.ipv4.ensures d.rooms_fit.ensures d.if-not-rooms_fit.false)
     _
-    (sym c.key_of.ensures
-    ∙ c.key-1.given.1)
+    (sym c.key_of.ensures ∙ c.in-Flow.is)
     c.key_bytes-bytes.ensures
     (c.take_key.ensures ∙ ap
     (λ l. offer_key l a.z a.salt c.key_bytes-bytes.result

@@ -1,12 +1,7 @@
 -- `encoder::take_each` meets its contract.
-use mathlib.Core.Path.{◌≡◌, refl, sym, ap, ◌∙◌}
+use mathlib.Core.Path.{◌≡◌}
 use Prim.Native.Nat.{◌≤◌, ◌-◌}
-use native.Mathlib.Omega.{arith}
-use lib.ListN.{length, get_or}
-use Rattle.laws.specs.Upto.{each_upto}
-use Rattle.laws.proofs.Upto.{each_more}
-use Rattle.cell.specs.Cell.{take_at_place}
-use Rattle.cell.proofs.Steps.{length-take}
+use lib.ListN.{length}
 use Rattle.encoder.specs.Loops.{take_each}
 use Rattle.encoder.proofs.take_each.Given as goal
 

@@ -26,7 +26,7 @@ any_full-requires c =
     let p = c.requires in (
       p.0,
       p.1.k-high,
-      rw c.Cells-of.ensures
+      rw c.cells_of-at.ensures
           (cells-inside a.l a.z p.0 p.1 a.salt a.key.now _ p.2.1),
     )
 
@@ -41,9 +41,9 @@ returns-then-any_full c =
     let a = c.args in
     let p = c.requires in
     offer-full a.l a.z p.0 p.1 a.salt a.key.now a.filter.now a.cells.now
-    c.bits_of-bits.result.at c.Cells-of.result.at
+    c.bits_of-bits.result.at c.cells_of-at.result.at
     c.any_clear-new.result
-    c.bits_of-bits.ensures c.Cells-of.ensures
+    c.bits_of-bits.ensures c.cells_of-at.ensures
     c.any_clear-new.ensures (sym c.any_full.ensures ∙ c.if-any_full.true)
 
 pub note_flow-requires : goal.note_flow-requires
@@ -61,7 +61,7 @@ take_each-requires c =
     let p = c.requires in (
       p.0,
       p.1.k-high,
-      rw c.Cells-of.ensures
+      rw c.cells_of-at.ensures
           (cells-inside a.l a.z p.0 p.1 a.salt a.key.now _ p.2.1),
       p.3,
     )
@@ -78,10 +78,10 @@ returns c =
     let p = c.requires in
     offer-taken a.l a.z p.0 p.1 a.salt a.key.now a.filter.now a.cells.now
     c.bits_of-bits.result.at
-    c.Cells-of.result.at
+    c.cells_of-at.result.at
     c.any_clear-new.result
     c.bits_of-bits.ensures
-    c.Cells-of.ensures
+    c.cells_of-at.ensures
     c.any_clear-new.ensures
     (sym c.any_full.ensures
     ∙ c.if-any_full.false)
