@@ -14,8 +14,6 @@ use Rattle.marks.specs.Marks.{first_mark}
 use Rattle.table.specs.Table.{Tab, tab}
 use Rattle.counting.specs.Book.{Book, ready_at, told_out}
 use Rattle.counting.specs.Count.{Counted, Ended, after_count, count_of, counts_upto}
-use Rattle.counting.specs.declared.Stop as counting
-use Rattle.counting.specs.declared.Stop.TheVariants as stop
 use Rattle.theory.specs.Encode.{Placement}
 use Rattle.theory.specs.Session.{Session, ready, Step, quiet, damaged, next, settled, damage, after_step, repeat}
 use Rattle.theory.specs.Session as theory

@@ -1,19 +1,14 @@
 -- What filling leaves, and each way out of opening, over plain values.
 use mathlib.Core.Path.{◌≡◌, refl, sym, ap, ◌∙◌}
 use mathlib.Core.Bool.{true, false}
-use mathlib.Core.List.{List, [], ◌∷◌}
-use mathlib.Core.Logic.{⊎_elim}
+use mathlib.Core.List.{List}
 use Prim.Native.Nat.{ℕ}
-use native.Mathlib.Omega.{arith}
-use types.Run.{OneOf}
-use denote.Enum.Declared.{tag_of}
 use lib.ListN.{length, replicate}
 use Rattle.layout.specs.declared.Layout.{Layout}
 use Rattle.layout.specs.declared.Sizes.{Sizes}
 use Rattle.reading.specs.declared.Reading.{Reading}
 use Rattle.reading.specs.declared.Reading.TheVariants as read
 use Rattle.reading.specs.Read.{read_of, filter_in}
-use Rattle.reading.specs.contracts.Reading as reading
 use Rattle.list.specs.Records.{records}
 use Rattle.table.specs.Table.{tab}
 use Rattle.room.specs.declared.Session.{Session}
@@ -41,11 +36,10 @@ filled l z salt image m r e f g h k q =
 
 -- ---- opening
 -- reading answers anything but an image
-others : (l : Layout) (image : List ℕ) (slot : ℕ) (m : Memory) (r : Reading) → OneOf (1 ∷ 2 ∷ 3 ∷ 4 ∷ 5 ∷ []) (tag_of reading.the_type r)
+others : (l : Layout) (image : List ℕ) (slot : ℕ) (m : Memory) (r : Reading) → ((z : Sizes) (salt : ℕ) → r ≡ read.Image z salt → ⊥)
     → opening (refused r) m ≡ open_read l slot image m r
 unfolding open_read
-others l image slot m (read.Image z salt) h =
-    absurd (⊎_elim (λ e. omega arith) (⊎_elim (λ e. omega arith) (⊎_elim (λ e. omega arith) (⊎_elim (λ e. omega arith) (λ e. omega arith)))) h)
+others l image slot m (read.Image z salt) h = absurd (h z salt refl)
 others l image slot m read.Length h = refl
 others l image slot m (read.Check n) h = refl
 others l image slot m (read.Form n) h = refl
@@ -58,7 +52,7 @@ module _ (l : Layout) (image : List ℕ) (slot : ℕ) (m : Memory) {r : Reading}
   open_is = ap (open_read l slot image m) e
 
   -- no image is read
-  pub open-refused : {o : Opened} → OneOf (1 ∷ 2 ∷ 3 ∷ 4 ∷ 5 ∷ []) (tag_of reading.the_type r) → o ≡ refused r → opening o m ≡ open_of l image slot m
+  pub open-refused : {o : Opened} → ((z : Sizes) (salt : ℕ) → r ≡ read.Image z salt → ⊥) → o ≡ refused r → opening o m ≡ open_of l image slot m
   open-refused h f = ap (λ o. opening o m) f ∙ others l image slot m r h ∙ open_is
 
   module _ {z : Sizes} {salt : ℕ} (f : r ≡ read.Image z salt) where

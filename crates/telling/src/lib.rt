@@ -1,25 +1,26 @@
-// What a test program needs: writing a line piece by piece, and filling buffers from a generator. It rests on laws and the toolchain's io.
+// What a test program needs: writing a line piece by piece, and filling buffers from a generator. It rests on laws and std's io.
 #![tactic(auto)]
 
-ghost use Rattle.std.specs.Prelude.{◌≡◌, min, length};
+ghost use Rattle.std.specs.Prelude.{◌≡◌, ◌≤◌, min, length, IfOk};
 ghost use Rattle.telling.specs.Generator.{next_number, after_numbers, random_bytes};
 
-use libc::STDOUT_FILENO;
+use std::io;
+use std::io::{Read, Write};
 
 // ---- writing
 
-pub fn say(bytes: &[u8]) {
-    io::write_all(STDOUT_FILENO, bytes);
+pub fn say(out: &mut impl Write, bytes: &[u8]) -> io::Result<()> {
+    out.write_all(bytes)
 }
 
-pub fn say_number(n: u64) {
-    io::print_decimal(STDOUT_FILENO, n);
+pub fn say_number(out: &mut impl Write, n: u64) -> io::Result<()> {
+    write!(out, "{n}")
 }
 
 // A space, then a number.
-pub fn say_next(n: u64) {
-    say(b" ");
-    say_number(n);
+pub fn say_next(out: &mut impl Write, n: u64) -> io::Result<()> {
+    say(out, b" ")?;
+    say_number(out, n)
 }
 
 // One hexadecimal digit.
@@ -32,20 +33,19 @@ fn digit(x: u8) -> u8 {
 }
 
 // Bytes in hexadecimal, up to 2,048 of them.
-fn say_some_hex(bytes: &[u8]) {
+fn say_some_hex(out: &mut impl Write, bytes: &[u8]) -> io::Result<()> {
     let mut text = [0u8; 4096];
     let mut i = 0;
     while i < bytes.len() {
         if 2048 <= i {
-            say(&text);
-            return;
+            return say(out, &text);
         }
         text[2 * i] = digit(bytes[i] / 16);
         text[2 * i + 1] = digit(bytes[i]);
         i += 1;
     }
     let n = 2 * i;
-    say(&text[..n]);
+    say(out, &text[..n])
 }
 
 fn least(a: usize, b: usize) -> usize
@@ -58,24 +58,41 @@ fn least(a: usize, b: usize) -> usize
 }
 
 // Bytes in hexadecimal.
-pub fn say_hex(bytes: &[u8]) {
+pub fn say_hex(out: &mut impl Write, bytes: &[u8]) -> io::Result<()> {
     let mut rest = bytes.len();
     while 0 < rest {
         let from = bytes.len() - rest;
         let to = from + least(rest, 2048);
-        say_some_hex(&bytes[from..to]);
+        say_some_hex(out, &bytes[from..to])?;
         rest -= least(rest, 2048);
     }
+    Ok(())
 }
 
 // A space; then bytes in hexadecimal, or a dot where there are none.
-pub fn say_buffer(bytes: &[u8]) {
-    say(b" ");
+pub fn say_buffer(out: &mut impl Write, bytes: &[u8]) -> io::Result<()> {
+    say(out, b" ")?;
     if bytes.len() == 0 {
-        say(b".");
-        return;
+        return say(out, b".");
     }
-    say_hex(bytes);
+    say_hex(out, bytes)
+}
+
+// ---- reading
+
+// Reads until the buffer is full or the input ends, and gives how many bytes stand at the buffer's start.
+pub fn read_full(input: &mut impl Read, buffer: &mut [u8]) -> io::Result<usize>
+    ensures { IfOk result (λ n. n ≤ length buffer.new) }
+{
+    let mut done = 0;
+    while done < buffer.len() {
+        let n = input.read(&mut buffer[done..])?;
+        if n == 0 {
+            break;
+        }
+        done += n;
+    }
+    Ok(done)
 }
 
 // ---- filling

@@ -1,0 +1,19 @@
+use mathlib.Core.Path.{sym, ap}
+use Rattle.peeling.specs.Peel.{listed_at}
+use Rattle.ending.specs.Over.{round_of, ending_b}
+use borrow.Author.Rules.{rules}
+use Rattle.ending.proofs.after_b.Goals as goal
+
+pub enum_known-s : goal.enum_known-s
+enum_known-s c = search rules
+
+pub enum_known-s-in-Damaged-1 : goal.enum_known-s-in-Damaged-1
+enum_known-s-in-Damaged-1 c = search rules
+
+pub returns-in-Done : goal.returns-in-Done
+returns-in-Done c =
+    ap (λ x. round_of c.args.a (listed_at x) c.args.twelves (ending_b x)) (sym c.in-Done.is)
+
+pub returns-in-Damaged : goal.returns-in-Damaged
+returns-in-Damaged c =
+    ap (λ x. round_of c.args.a (listed_at x) c.args.twelves (ending_b x)) (sym c.in-Damaged.is)
