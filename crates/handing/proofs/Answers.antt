@@ -1,14 +1,11 @@
 -- What the code finds on each way through a hand-over is what the definition says.
 use mathlib.Core.Path.{◌≡◌, refl, sym, ap, ap₂, ◌∙◌}
 use mathlib.Core.Bool.{Bool, true, false, cond}
-use mathlib.Core.List.{List, [], ◌∷◌}
-use mathlib.Core.Logic.{⊎_elim}
+use mathlib.Core.List.{List}
 use Prim.Native.Nat.{ℕ, ◌*◌, ◌<◌, ◌≤◌}
 use native.Mathlib.Omega.{arith}
 use borrow.Author.Tests.{le-leb, lt-leb, leb-false}
 use lib.Dec.{leb}
-use types.Run.{OneOf}
-use denote.Enum.Declared.{tag_of}
 use Rattle.laws.specs.Upto.{list_upto}
 use Rattle.layout.specs.declared.Layout.{Layout}
 use Rattle.layout.specs.declared.Sizes.{Sizes}
@@ -25,7 +22,6 @@ use Rattle.table.proofs.Bounds.{room-for-hand}
 use Rattle.handing.specs.Hand.{answer_of, handing, after_answer, hand_of, hand_number, Hands}
 use Rattle.handing.specs.declared.Handed.{Handed}
 use Rattle.handing.specs.declared.Handed.TheVariants.{Taken, NotInFilter, Listed, EmptyCell, TooMany}
-use Rattle.handing.specs.contracts.Handed as answers
 
 -- ---- the answer
 module _ (l : Layout) (z : Sizes) (salt n handed : ℕ) (filter flows keys key : List ℕ) (r : Ranged z)
@@ -62,9 +58,8 @@ module _ (l : Layout) (z : Sizes) (salt n handed : ℕ) (filter flows keys key :
 
 -- ---- what is left
 -- an answer other than the first has a number above 0
-pub other-number : (a : Handed) → OneOf (1 ∷ 2 ∷ 3 ∷ 4 ∷ []) (tag_of answers.the_type a) → 0 < hand_number a
-other-number Taken h =
-    absurd (⊎_elim (λ e. omega arith) (λ o. ⊎_elim (λ e. omega arith) (λ q. ⊎_elim (λ e. omega arith) (λ e. omega arith) q) o) h)
+pub other-number : (a : Handed) → (a ≡ Taken → ⊥) → 0 < hand_number a
+other-number Taken h = absurd (h refl)
 other-number NotInFilter h = omega arith
 other-number Listed h = omega arith
 other-number EmptyCell h = omega arith
@@ -85,7 +80,7 @@ module _ (l : Layout) (z : Sizes) (salt n : ℕ) (key filter : List ℕ) (t : Ta
     unfolding hand_of
     after_is = ap (after_answer l z salt n key t rs seen) (e ∙ ap (λ m. answer_of l z salt n m filter t.flows rs.keys key) h)
 
-    pub hand-other : OneOf (1 ∷ 2 ∷ 3 ∷ 4 ∷ []) (tag_of answers.the_type a) → handing a t rs seen ≡ hand_of l z salt n key filter t rs seen
+    pub hand-other : (a ≡ Taken → ⊥) → handing a t rs seen ≡ hand_of l z salt n key filter t rs seen
     hand-other o = sym (after_kept a (other-number a o)) ∙ after_is
 
     pub hand-taken : {at : List ℕ} {t' : Tab} {rs' : Records} {seen' : List ℕ} {own : ℕ} → a ≡ Taken → at ≡ list_upto 4 (cell_of l z salt key)

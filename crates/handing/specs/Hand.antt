@@ -1,5 +1,5 @@
 -- Hand-over of a key to a session that passed the test of 8: 01 'A session', "Hand-over of a key".
-use Rattle.std.specs.Prelude.{true, cond, List, ◌≡◌, ℕ, leb, length}
+use Rattle.std.specs.Prelude.{cond, List, ◌≡◌, ℕ, leb, length}
 use Rattle.layout.specs.declared.Layout.{Layout}
 use Rattle.layout.specs.declared.Sizes.{Sizes}
 use Rattle.layout.specs.Sizes.{table_cells, filter_bytes}
