@@ -2,15 +2,30 @@
 // packets, each after how often it is taken (4 bytes) and its length (2). Standard output: the image, or nothing and a line on standard error.
 #![tactic(auto)]
 
-ghost use Rattle.std.specs.Prelude.{◌≤◌, length};
+ghost use Rattle.std.specs.Prelude.{◌≤◌, length, IfOk};
 
 use encoder::{Started, Taken};
 use layout::Sizes;
-use libc::{STDERR_FILENO, STDIN_FILENO, STDOUT_FILENO};
 use sealing::Sealed;
+use std::io;
+use std::io::{Read, Write};
 
-fn complain(text: &[u8]) {
-    io::write_all(STDERR_FILENO, text);
+// As much of standard input as is read, and room for a filter, for cells and for an image.
+const ROOM: usize = 65536;
+
+// Reads until the buffer is full or the input ends, and gives how many bytes stand at the buffer's start.
+fn read_full(input: &mut impl Read, buffer: &mut [u8]) -> io::Result<usize>
+    ensures { IfOk result (λ n. n ≤ length buffer.new) }
+{
+    let mut done = 0;
+    while done < buffer.len() {
+        let n = input.read(&mut buffer[done..])?;
+        if n == 0 {
+            break;
+        }
+        done += n;
+    }
+    Ok(done)
 }
 
 // A byte as a size, and as a part of a number.
@@ -38,68 +53,94 @@ fn record_end(input: &[u8], at: usize) -> usize
 }
 
 // Whether a packet call took the packet, or refused it for the packet's own sake (6, 7), which is said.
-fn is_taken(t: Taken) -> bool {
+fn is_taken(said: &mut impl Write, t: Taken) -> io::Result<bool> {
     match t {
-        Taken::Done => true,
+        Taken::Done => Ok(true),
         Taken::NoKey => {
-            complain(b"encode: a packet has no key (6)\n");
-            false
+            said.write_all(b"encode: a packet has no key (6)\n")?;
+            Ok(false)
         }
         Taken::Full => {
-            complain(b"encode: a counter is full (7)\n");
-            false
+            said.write_all(b"encode: a counter is full (7)\n")?;
+            Ok(false)
         }
-        Taken::BadSizes => false,
-        Taken::BadRoom => false,
+        Taken::BadSizes => Ok(false),
+        Taken::BadRoom => Ok(false),
     }
 }
 
 // Takes a packet so many times, or until it is refused.
-fn take_often(z: Sizes, salt: u32, packet: &[u8], times: u32, filter: &mut [u8], cells: &mut [u8]) {
+fn take_often(
+    said: &mut impl Write,
+    z: Sizes,
+    salt: u32,
+    packet: &[u8],
+    times: u32,
+    filter: &mut [u8],
+    cells: &mut [u8],
+) -> io::Result<()> {
     let mut left = times;
     while left > 0 {
-        if !is_taken(encoder::packet(z, salt, filter, cells, packet)) {
-            return;
+        if !is_taken(said, encoder::packet(z, salt, filter, cells, packet))? {
+            return Ok(());
         }
         left -= 1;
     }
+    Ok(())
 }
 
 // Takes every packet of the input.
-fn take_all(z: Sizes, salt: u32, input: &[u8], filter: &mut [u8], cells: &mut [u8]) {
+fn take_all(
+    said: &mut impl Write,
+    z: Sizes,
+    salt: u32,
+    input: &[u8],
+    filter: &mut [u8],
+    cells: &mut [u8],
+) -> io::Result<()> {
     let mut at = 12;
     while at < input.len() {
         let next = record_end(input, at);
         if next < at + 6 {
-            complain(b"encode: the last packet is cut short\n");
-            return;
+            return said.write_all(b"encode: the last packet is cut short\n");
         }
         let from = at + 6;
         take_often(
+            said,
             z,
             salt,
             &input[from..next],
             fields::long_at(input, at),
             filter,
             cells,
-        );
+        )?;
         at = next;
     }
+    Ok(())
 }
 
 // Seals the flowset and writes the image.
-fn write_image(z: Sizes, salt: u32, slot: u32, filter: &[u8], cells: &[u8], image: &mut [u8]) {
+fn write_image(
+    out: &mut impl Write,
+    said: &mut impl Write,
+    z: Sizes,
+    salt: u32,
+    slot: u32,
+    filter: &[u8],
+    cells: &[u8],
+    image: &mut [u8],
+) -> io::Result<()> {
     match sealing::seal(z, salt, slot, filter, cells, image) {
-        Sealed::Done => {
-            io::write_all(STDOUT_FILENO, image);
-        }
-        Sealed::BadSizes => complain(b"encode: sizes out of range (3)\n"),
-        Sealed::BadRoom => complain(b"encode: room (16)\n"),
-        Sealed::BadZero => complain(b"encode: a zero byte (3)\n"),
+        Sealed::Done => out.write_all(image),
+        Sealed::BadSizes => said.write_all(b"encode: sizes out of range (3)\n"),
+        Sealed::BadRoom => said.write_all(b"encode: room (16)\n"),
+        Sealed::BadZero => said.write_all(b"encode: a zero byte (3)\n"),
     }
 }
 
 fn lend_image(
+    out: &mut impl Write,
+    said: &mut impl Write,
     z: Sizes,
     salt: u32,
     slot: u32,
@@ -107,60 +148,88 @@ fn lend_image(
     cells: &[u8],
     room: &mut [u8],
     n: usize,
-) {
+) -> io::Result<()> {
     if n <= room.len() {
-        write_image(z, salt, slot, filter, cells, &mut room[..n]);
+        write_image(out, said, z, salt, slot, filter, cells, &mut room[..n])?;
     }
+    Ok(())
 }
 
 // Whether the encoder is started; a refusal is said.
-fn is_started(s: Started) -> bool {
+fn is_started(said: &mut impl Write, s: Started) -> io::Result<bool> {
     match s {
-        Started::Done => true,
+        Started::Done => Ok(true),
         Started::BadSizes => {
-            complain(b"encode: sizes out of range (3)\n");
-            false
+            said.write_all(b"encode: sizes out of range (3)\n")?;
+            Ok(false)
         }
         Started::BadRoom => {
-            complain(b"encode: room (16)\n");
-            false
+            said.write_all(b"encode: room (16)\n")?;
+            Ok(false)
         }
     }
 }
 
 // The calls, in filter and cells of the lengths that the sizes give.
-fn run(input: &[u8], z: Sizes, image: usize, filter: &mut [u8], cells: &mut [u8]) {
+fn run(
+    out: &mut impl Write,
+    said: &mut impl Write,
+    input: &[u8],
+    z: Sizes,
+    image: usize,
+    filter: &mut [u8],
+    cells: &mut [u8],
+) -> io::Result<()> {
     if input.len() < 12 {
-        return;
+        return Ok(());
     }
     let salt = fields::long_at(input, 4);
     let slot = fields::long_at(input, 8);
-    if !is_started(encoder::start(z, filter, cells)) {
-        return;
+    if !is_started(said, encoder::start(z, filter, cells))? {
+        return Ok(());
     }
-    take_all(z, salt, input, filter, cells);
-    let mut room = io::large_buffer();
-    lend_image(z, salt, slot, filter, cells, &mut room, image);
+    take_all(said, z, salt, input, filter, cells)?;
+    let mut room = [0u8; ROOM];
+    lend_image(out, said, z, salt, slot, filter, cells, &mut room, image)
 }
 
-fn lend_cells(input: &[u8], z: Sizes, image: usize, filter: &mut [u8], room: &mut [u8], n: usize) {
+fn lend_cells(
+    out: &mut impl Write,
+    said: &mut impl Write,
+    input: &[u8],
+    z: Sizes,
+    image: usize,
+    filter: &mut [u8],
+    room: &mut [u8],
+    n: usize,
+) -> io::Result<()> {
     if n <= room.len() {
-        run(input, z, image, filter, &mut room[..n]);
+        run(out, said, input, z, image, filter, &mut room[..n])?;
     }
+    Ok(())
 }
 
-fn lend_filter(input: &[u8], z: Sizes, image: usize, cells: usize, room: &mut [u8], n: usize) {
+fn lend_filter(
+    out: &mut impl Write,
+    said: &mut impl Write,
+    input: &[u8],
+    z: Sizes,
+    image: usize,
+    cells: usize,
+    room: &mut [u8],
+    n: usize,
+) -> io::Result<()> {
     if n <= room.len() {
-        let mut next = io::large_buffer();
-        lend_cells(input, z, image, &mut room[..n], &mut next, cells);
+        let mut next = [0u8; ROOM];
+        lend_cells(out, said, input, z, image, &mut room[..n], &mut next, cells)?;
     }
+    Ok(())
 }
 
-// Makes the image of an input.
-fn encode(input: &[u8]) {
+// Makes the image of an input: what is said of it goes to `said`.
+fn encode(out: &mut impl Write, said: &mut impl Write, input: &[u8]) -> io::Result<()> {
     if input.len() < 12 {
-        complain(b"encode: want sizes, salt and slot\n");
-        return;
+        return said.write_all(b"encode: want sizes, salt and slot\n");
     }
     let z = Sizes {
         kf: wide(input[0]),
@@ -169,17 +238,17 @@ fn encode(input: &[u8]) {
         q: wide(input[3]),
     };
     if !layout::in_range(z) {
-        complain(b"encode: sizes out of range (3)\n");
-        return;
+        return said.write_all(b"encode: sizes out of range (3)\n");
     }
     let image = layout::block_count(z) * 512;
     let cells = layout::cell_bytes(layout::ipv4(), z);
-    let mut room = io::large_buffer();
-    lend_filter(input, z, image, cells, &mut room, layout::filter_bytes(z));
+    let mut room = [0u8; ROOM];
+    let filter = layout::filter_bytes(z);
+    lend_filter(out, said, input, z, image, cells, &mut room, filter)
 }
 
-fn main() {
-    let mut input = io::large_buffer();
-    let n = io::read_full(STDIN_FILENO, &mut input);
-    encode(&input[..n]);
+fn main(rt: HostRuntime) -> io::Result<()> {
+    let mut input = [0u8; ROOM];
+    let n = read_full(&mut rt.stdin(), &mut input)?;
+    encode(&mut rt.stdout(), &mut rt.stderr(), &input[..n])
 }

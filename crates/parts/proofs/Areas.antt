@@ -1,8 +1,8 @@
 -- A part of the areas, and other lists laid in its place.
-use mathlib.Core.Path.{◌≡◌, refl, sym, ap, ap₂, subst, ◌∙◌}
+use mathlib.Core.Path.{◌≡◌, sym, ap, ap₂, ◌∙◌}
 use mathlib.Core.List.{List, ◌++◌}
 use mathlib.Core.Logic.{◌⊎◌, inl, inr}
-use Prim.Native.Nat.{ℕ, ◌+◌, ◌-◌, ◌*◌, ◌≤◌}
+use Prim.Native.Nat.{ℕ, ◌+◌, ◌-◌, ◌≤◌}
 use native.Mathlib.Omega.{arith}
 use lib.ListN.{length, take, drop, length-drop, length-append, take-append-drop}
 use lib.Seq.{length-take-le, take_at, drop_at}
@@ -18,7 +18,7 @@ use Rattle.settling.specs.Settle.{Settled, settled, settle_of}
 use Rattle.handing.specs.declared.Handed.{Handed}
 use Rattle.handing.specs.Hand.{Handing, handing, hand_of}
 use Rattle.parts.specs.declared.Place.{Place}
-use Rattle.parts.specs.Sides.{Switch, switch, side, settle_side}
+use Rattle.parts.specs.Sides.{switch, side, settle_side}
 use Rattle.parts.specs.Areas.{between, laid, table_at, list_at_place, with_table, with_list, Inside, Areas, with_part, rest, settle_part, hand_part}
 
 -- ---- lists

@@ -2,11 +2,11 @@
 use mathlib.Core.Path.{◌≡◌, refl, sym, ap, ap₂, subst, ◌∙◌}
 use mathlib.Core.List.{List, []}
 use mathlib.Core.Logic.{◌⊎◌, inl, inr}
-use Prim.Native.Nat.{ℕ, zero, suc, ◌+◌, ◌-◌, ◌*◌, ◌≤◌, ◌<◌}
+use Prim.Native.Nat.{ℕ, ◌+◌, ◌-◌, ◌*◌, ◌≤◌, ◌<◌}
 use native.Mathlib.Omega.{arith}
 use lib.ListN.{length, take, drop}
 use lib.Seq.{drop-drop}
-use Rattle.laws.specs.Upto.{each_upto, number_upto}
+use Rattle.laws.specs.Upto.{each_upto}
 use Rattle.laws.proofs.Lists.{length_part}
 use Rattle.laws.proofs.Lowest.{number-max}
 use Rattle.laws.proofs.Rows.{row_within, row_next}
@@ -19,7 +19,7 @@ use Rattle.table.specs.Table.{Tab}
 use Rattle.handing.specs.declared.Handed.{Handed}
 use Rattle.handing.specs.Hand.{Handing, handing, hand_of, taken_by, Hands, twelve_by}
 use Rattle.parts.specs.declared.Place.{Place}
-use Rattle.parts.specs.Sides.{Switch, switch, Given, given, after_hand, hand_at, hand_keys}
+use Rattle.parts.specs.Sides.{switch, Given, given, after_hand, hand_at, hand_keys}
 use Rattle.parts.specs.Areas.{between, laid, table_at, list_at_place, with_table, with_list, Inside, hand_part, given_in, given_upto, give_part, Gives}
 use Rattle.parts.proofs.Areas.{length-between, laid_same, table_same, list_same, Fills, fits-fill, table-in, list-in, seen-in, Alike, alike, inside-alike, laid-apart, handed-again}
 use Rattle.parts.proofs.Hands.{Ready, ready-hands, hand-onward, ready-upto, twelves-upto}

@@ -1,7 +1,7 @@
 -- Keys handed over one after the other: what each needs holds again after it, and what is left is what the definition says.
 use mathlib.Core.Path.{◌≡◌, refl, sym, ap, subst, ◌∙◌}
 use mathlib.Core.List.{List}
-use Prim.Native.Nat.{ℕ, zero, suc, ◌+◌, ◌-◌, ◌*◌, ◌≤◌, ◌<◌}
+use Prim.Native.Nat.{ℕ, zero, suc, ◌+◌, ◌≤◌, ◌<◌}
 use native.Mathlib.Omega.{arith}
 use lib.ListN.{length}
 use Rattle.laws.specs.Upto.{each_upto}
@@ -9,13 +9,13 @@ use Rattle.laws.proofs.Upto.{each_same}
 use Rattle.layout.specs.declared.Layout.{Layout}
 use Rattle.layout.specs.declared.Sizes.{Sizes}
 use Rattle.layout.specs.Sizes.{filter_bytes}
-use Rattle.list.specs.Records.{Records, key_at, handed_in}
+use Rattle.list.specs.Records.{key_at, handed_in}
 use Rattle.peeling.specs.Peel.{Steady}
 use Rattle.handing.specs.declared.Handed.{Handed}
 use Rattle.handing.specs.declared.Handed.TheVariants.{Taken, NotInFilter, Listed, EmptyCell, TooMany}
 use Rattle.handing.specs.Hand.{Handing, handing, hand_of, taken_by, hand_number, Hands, twelve_by}
 use Rattle.handing.proofs.Laws.{hand-kept, hand-fits, hand-bounded, hand-handed}
-use Rattle.parts.specs.Sides.{Switch, switch, Given, given, after_hand, hand_at, hand_keys}
+use Rattle.parts.specs.Sides.{Switch, switch, Given, after_hand, hand_at, hand_keys}
 
 -- ---- one session, without the areas
 module _ (l : Layout) (z : Sizes) (salt : ℕ) (filter : List ℕ) where

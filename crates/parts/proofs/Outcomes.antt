@@ -2,7 +2,6 @@
 use mathlib.Core.Path.{refl, sym, ap, ◌∙◌}
 use Rattle.laws.specs.Outcomes.{Determined}
 use Rattle.laws.proofs.Outcomes.{both}
-use Rattle.parts.specs.declared.Tally.{Tally}
 use Rattle.parts.specs.Sides.{Given}
 use Rattle.parts.specs.Areas.{Rest}
 use Rattle.parts.proofs.origin.Kinds as origin-kinds

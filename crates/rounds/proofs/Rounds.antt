@@ -1,12 +1,9 @@
 -- Rounds one after the other, as the loop goes.
 use mathlib.Core.Path.{◌≡◌, refl, sym, ap, ap₂, subst, ◌∙◌}
 use mathlib.Core.Bool.{Bool, true, false, cond}
-use mathlib.Core.List.{List, [], ◌∷◌}
-use mathlib.Core.Logic.{⊎_elim, ◌⊎◌}
+use mathlib.Core.List.{List}
 use Prim.Native.Nat.{ℕ, suc, ◌+◌, ◌-◌, ◌*◌, ◌≤◌, ◌<◌}
 use native.Mathlib.Omega.{arith}
-use types.Run.{OneOf}
-use denote.Enum.Declared.{tag_of}
 use lib.ListN.{length}
 use Rattle.laws.proofs.Bools.{clash}
 use Rattle.layout.specs.declared.Layout.{Layout}
@@ -24,7 +21,6 @@ use Rattle.ending.specs.declared.Ending.TheVariants as end
 use Rattle.ending.specs.Over.{is_over, round_of}
 use Rattle.rounds.specs.Rounds.{Pair, pair, Ended, ended, then_b, settle_both, hand_both, round, rounds, most_rounds, then_rounds, exchange_sides}
 use Rattle.rounds.specs.Joined.{switch_of, pair_in, Left, left, left_by, Both}
-use Rattle.ending.specs.contracts.Ending as ending
 use Rattle.rounds.proofs.Both.{settled-stands, Lies}
 use Rattle.rounds.proofs.Steps.{lies-start, lies_at}
 use Rattle.rounds.proofs.Gives.{filter-a, filter-b, given-stands, lies-pair, twelves-few}
@@ -180,10 +176,10 @@ module _ (l : Layout) (s t : Session) (p e : Place) (filter : List ℕ) where
           }
 
 -- ---- the two settlings before the rounds
-then-stopped : (l : Layout) (A : Switch) (f : List ℕ) (B : Switch) (g : List ℕ) (p : Pair) (x : Ending) → OneOf (1 ∷ 2 ∷ []) (tag_of ending.the_type x)
+then-stopped : (l : Layout) (A : Switch) (f : List ℕ) (B : Switch) (g : List ℕ) (p : Pair) (x : Ending) → (x ≡ end.Settled → ⊥)
     → ended x p ≡ then_rounds l A f B g p x
 unfolding then_rounds
-then-stopped l A f B g p end.Settled h = absurd (⊎_elim (λ e. omega arith) (λ e. omega arith) h)
+then-stopped l A f B g p end.Settled h = absurd (h refl)
 then-stopped l A f B g p (end.DamagedA c) h = refl
 then-stopped l A f B g p (end.DamagedB c) h = refl
 
@@ -214,12 +210,12 @@ module _ (l : Layout) (s t : Session) (p e : Place) (filter : List ℕ) {w₀ : 
   pub sides-both : Both l s t p e r.a r.b w
   sides-both = lies_at h first-lies (ap (λ (v : Round). v.a) first-numbers) (ap (λ (v : Round). v.b) first-numbers)
 
-  pub sides-stopped : OneOf (1 ∷ 2 ∷ []) (tag_of ending.the_type r.ending)
+  pub sides-stopped : (r.ending ≡ end.Settled → ⊥)
       → left r w ≡ left_by (exchange_sides l (switch_of s) (between 0 p.filter filter) (switch_of t) (between p.filter e.filter filter) start)
   unfolding exchange_sides
   sides-stopped q =
       o ∙ ap left_by (then-stopped l (switch_of s) (between 0 p.filter filter) (switch_of t) (between p.filter e.filter filter) first.pair
-      first.ending (subst (λ x. OneOf (1 ∷ 2 ∷ []) (tag_of ending.the_type x)) (ap (λ (v : Round). v.ending) first-numbers) q))
+      first.ending (subst (λ x. x ≡ end.Settled → ⊥) (ap (λ (v : Round). v.ending) first-numbers) q))
 
   pub sides-settled : r.ending ≡ end.Settled → {most : ℕ} → most ≡ most_rounds l (switch_of s) (switch_of t) → {y : Left}
       → y ≡ left_by (rounds most l (switch_of s) (between 0 p.filter filter) (switch_of t) (between p.filter e.filter filter) (pair_in p e r.a r.b 0 w))

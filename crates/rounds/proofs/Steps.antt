@@ -1,10 +1,8 @@
 -- Settling both sessions: what the calls need, and what they leave.
 use mathlib.Core.Path.{◌≡◌, refl, sym, ap, ap₂, subst, ◌∙◌}
-use mathlib.Core.List.{List, [], ◌∷◌, ◌++◌}
-use Prim.Native.Nat.{ℕ, ◌+◌, ◌-◌, ◌≤◌}
+use mathlib.Core.List.{List, ◌++◌}
+use Prim.Native.Nat.{ℕ, ◌-◌, ◌≤◌}
 use native.Mathlib.Omega.{arith}
-use types.Run.{OneOf}
-use denote.Enum.Declared.{tag_of}
 use lib.ListN.{length, take, drop, length-append, length-drop, take-append-drop}
 use lib.Seq.{take_all}
 use Rattle.layout.specs.declared.Layout.{Layout}
@@ -13,7 +11,6 @@ use Rattle.layout.proofs.Ranges.{table-high}
 use Rattle.peeling.specs.Peel.{listed_at}
 use Rattle.peeling.specs.declared.Stop.{Stop}
 use Rattle.peeling.specs.declared.Stop.TheVariants.{Done, Damaged}
-use Rattle.peeling.specs.contracts.Stop as stop
 use Rattle.room.specs.declared.Session.{Session}
 use Rattle.parts.specs.declared.Place.{Place}
 use Rattle.parts.specs.Sides.{Switch, Side, Stands, settle_side}
@@ -199,13 +196,13 @@ module _ (l : Layout) (A B : Switch) (a b : Side) (twelves : ℕ) where
   listed-left w x = refl
 
   -- A's settling did not go through
-  stop-a : (x : Stop) → OneOf (1 ∷ []) (tag_of stop.the_type x)
+  stop-a : (x : Stop) → ((n : ℕ) → x ≡ Done n → ⊥)
       → ended (ending_a x) (pair (settle_side l A a).left b twelves) ≡ then_b l B (settle_side l A a).left b twelves x
   unfolding then_b
-  stop-a (Done n) h = absurd (omega (arith, h))
+  stop-a (Done n) h = absurd (h n refl)
   stop-a (Damaged n c) h = refl
 
-  pub both_stopped : {x : Stop} {r : Round} {s : Areas} → OneOf (1 ∷ []) (tag_of stop.the_type x) → x ≡ (settle_side l A a).stop
+  pub both_stopped : {x : Stop} {r : Round} {s : Areas} → ((n : ℕ) → x ≡ Done n → ⊥) → x ≡ (settle_side l A a).stop
       → r ≡ round_of (listed_at x) b.listed twelves (ending_a x) → s ≡ joined_sides (settle_side l A a).left b
       → left r s ≡ left_by (settle_both l A B (pair a b twelves))
   unfolding settle_both

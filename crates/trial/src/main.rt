@@ -7,38 +7,41 @@ ghost use Rattle.std.specs.Prelude.{◌≤◌, length};
 use encoder::{Started, Taken};
 use hash::Fnv;
 use layout::Sizes;
-use libc::{STDIN_FILENO, STDOUT_FILENO};
 use packet::{Key, Keyed};
 use reading::Reading;
 use sealing::Sealed;
+use std::io;
+use std::io::{Read, Write};
+
+// The longest payload, and room for each buffer of request 4.
+const ROOM: usize = 65536;
 
 // Request 1: the hash of the payload.
-fn answer_hash(payload: &[u8]) {
-    io::print_hex(STDOUT_FILENO, Fnv::new().bytes(payload).state as u64, 8);
-    telling::say(b"\n");
+fn answer_hash(out: &mut impl Write, payload: &[u8]) -> io::Result<()> {
+    let state = Fnv::new().bytes(payload).state;
+    write!(out, "{state:08x}\n")
 }
 
 // A key's bytes, and the key that those bytes give back.
-fn say_key(key: Key) {
+fn say_key(out: &mut impl Write, key: Key) -> io::Result<()> {
     let bytes = packet::key_bytes(key);
-    telling::say_hex(&bytes);
+    telling::say_hex(out, &bytes)?;
     let back = packet::key_from(&bytes);
-    telling::say_next(back.source as u64);
-    telling::say_next(back.destination as u64);
-    telling::say_next(back.sport as u64);
-    telling::say_next(back.dport as u64);
-    telling::say_next(back.protocol as u64);
+    telling::say_next(out, back.source as u64)?;
+    telling::say_next(out, back.destination as u64)?;
+    telling::say_next(out, back.sport as u64)?;
+    telling::say_next(out, back.dport as u64)?;
+    telling::say_next(out, back.protocol as u64)
 }
 
 // Request 2: the key of a packet.
-fn answer_key(payload: &[u8]) {
+fn answer_key(out: &mut impl Write, payload: &[u8]) -> io::Result<()> {
     let Keyed::Flow(key) = packet::key_of(payload) else {
-        telling::say(b"6\n");
-        return;
+        return telling::say(out, b"6\n");
     };
-    telling::say(b"0 ");
-    say_key(key);
-    telling::say(b"\n");
+    telling::say(out, b"0 ")?;
+    say_key(out, key)?;
+    telling::say(out, b"\n")
 }
 
 fn wide(b: u8) -> usize
@@ -66,27 +69,26 @@ fn sizes_at(payload: &[u8]) -> Sizes {
 }
 
 // The first n of the places.
-fn say_places(at: &[usize], n: usize) {
+fn say_places(out: &mut impl Write, at: &[usize], n: usize) -> io::Result<()> {
     let mut i = 0;
     while i < n {
         if at.len() <= i {
-            return;
+            return Ok(());
         }
-        telling::say_next(at[i] as u64);
+        telling::say_next(out, at[i] as u64)?;
         i += 1;
     }
+    Ok(())
 }
 
 // Request 3: a key's cells and filter bits.
-fn answer_places(payload: &[u8]) {
+fn answer_places(out: &mut impl Write, payload: &[u8]) -> io::Result<()> {
     if payload.len() != 21 {
-        telling::say(b"length\n");
-        return;
+        return telling::say(out, b"length\n");
     }
     let z = sizes_at(payload);
     if !layout::in_range(z) {
-        telling::say(b"3\n");
-        return;
+        return telling::say(out, b"3\n");
     }
     let salt = fields::long_at(payload, 4);
     let from = 8;
@@ -94,12 +96,12 @@ fn answer_places(payload: &[u8]) {
     let h = hash::after_salt(salt);
     let cells = hash::cells_of(layout::ipv4(), z, salt, h, key);
     let bits = hash::bits_of(z, salt, h, key);
-    telling::say(b"0");
+    telling::say(out, b"0")?;
     let c = cells.at;
     let b = bits.at;
-    say_places(&c, z.k);
-    say_places(&b, z.kf);
-    telling::say(b"\n");
+    say_places(out, &c, z.k)?;
+    say_places(out, &b, z.kf)?;
+    telling::say(out, b"\n")
 }
 
 fn fill_with(s: &mut [u8], b: u8) {
@@ -168,17 +170,26 @@ fn packets_whole(p: &[u8]) -> bool {
 }
 
 // Each packet from byte 23 on is given to the packet call.
-fn take_packets(z: Sizes, salt: u32, p: &[u8], filter: &mut [u8], cells: &mut [u8]) {
+fn take_packets(
+    out: &mut impl Write,
+    z: Sizes,
+    salt: u32,
+    p: &[u8],
+    filter: &mut [u8],
+    cells: &mut [u8],
+) -> io::Result<()> {
     let mut at = 23;
     while at < p.len() {
         let next = packet_end(p, at);
         if next < at + 2 {
-            return;
+            return Ok(());
         }
         let from = at + 2;
-        telling::say_next(take_number(encoder::packet(z, salt, filter, cells, &p[from..next])));
+        let taken = encoder::packet(z, salt, filter, cells, &p[from..next]);
+        telling::say_next(out, take_number(taken))?;
         at = next;
     }
+    Ok(())
 }
 
 // A zero byte, of the cell at hand or not.
@@ -228,31 +239,49 @@ fn prepare(mode: u8, seed: u32, slot: u32, filter: &mut [u8], cells: &mut [u8]) 
 }
 
 // Starting, in mode 0 alone.
-fn start_at(mode: u8, z: Sizes, filter: &mut [u8], cells: &mut [u8]) {
+fn start_at(
+    out: &mut impl Write,
+    mode: u8,
+    z: Sizes,
+    filter: &mut [u8],
+    cells: &mut [u8],
+) -> io::Result<()> {
     if mode == 0 {
-        telling::say_number(start_number(encoder::start(z, filter, cells)));
-        return;
+        return telling::say_number(out, start_number(encoder::start(z, filter, cells)));
     }
-    telling::say(b"-");
+    telling::say(out, b"-")
 }
 
 // The calls of request 4, with their answers.
-fn call_encoder(p: &[u8], filter: &mut [u8], cells: &mut [u8], image: &mut [u8]) {
+fn call_encoder(
+    out: &mut impl Write,
+    p: &[u8],
+    filter: &mut [u8],
+    cells: &mut [u8],
+    image: &mut [u8],
+) -> io::Result<()> {
     if p.len() < 23 {
-        return;
+        return Ok(());
     }
     let z = sizes_at(p);
     let salt = fields::long_at(p, 4);
     let slot = fields::long_at(p, 8);
-    start_at(p[18], z, filter, cells);
-    take_packets(z, salt, p, filter, cells);
-    telling::say_next(seal_number(sealing::seal(z, salt, slot, filter, cells, image)));
+    start_at(out, p[18], z, filter, cells)?;
+    take_packets(out, z, salt, p, filter, cells)?;
+    let sealed = sealing::seal(z, salt, slot, filter, cells, image);
+    telling::say_next(out, seal_number(sealed))
 }
 
 // Request 4 in buffers of the lengths asked for: what they hold before, the calls, what they hold after.
-fn run_encoder(p: &[u8], filter: &mut [u8], cells: &mut [u8], image: &mut [u8]) {
+fn run_encoder(
+    out: &mut impl Write,
+    p: &[u8],
+    filter: &mut [u8],
+    cells: &mut [u8],
+    image: &mut [u8],
+) -> io::Result<()> {
     if p.len() < 23 {
-        return;
+        return Ok(());
     }
     let x = prepare(
         p[18],
@@ -262,132 +291,165 @@ fn run_encoder(p: &[u8], filter: &mut [u8], cells: &mut [u8], image: &mut [u8]) 
         cells,
     );
     telling::fill_random(image, x);
-    call_encoder(p, filter, cells, image);
-    telling::say_buffer(filter);
-    telling::say_buffer(cells);
-    telling::say_buffer(image);
-    telling::say(b"\n");
+    call_encoder(out, p, filter, cells, image)?;
+    telling::say_buffer(out, filter)?;
+    telling::say_buffer(out, cells)?;
+    telling::say_buffer(out, image)?;
+    telling::say(out, b"\n")
 }
 
-fn lend_image(p: &[u8], filter: &mut [u8], cells: &mut [u8], room: &mut [u8], n: usize) {
+fn lend_image(
+    out: &mut impl Write,
+    p: &[u8],
+    filter: &mut [u8],
+    cells: &mut [u8],
+    room: &mut [u8],
+    n: usize,
+) -> io::Result<()> {
     if n <= room.len() {
-        run_encoder(p, filter, cells, &mut room[..n]);
+        run_encoder(out, p, filter, cells, &mut room[..n])?;
     }
+    Ok(())
 }
 
-fn lend_cells(p: &[u8], filter: &mut [u8], room: &mut [u8], n: usize, image: usize) {
+fn lend_cells(
+    out: &mut impl Write,
+    p: &[u8],
+    filter: &mut [u8],
+    room: &mut [u8],
+    n: usize,
+    image: usize,
+) -> io::Result<()> {
     if n <= room.len() {
-        let mut next = io::large_buffer();
-        lend_image(p, filter, &mut room[..n], &mut next, image);
+        let mut next = [0u8; ROOM];
+        lend_image(out, p, filter, &mut room[..n], &mut next, image)?;
     }
+    Ok(())
 }
 
-fn lend_filter(p: &[u8], room: &mut [u8], n: usize, cells: usize, image: usize) {
+fn lend_filter(
+    out: &mut impl Write,
+    p: &[u8],
+    room: &mut [u8],
+    n: usize,
+    cells: usize,
+    image: usize,
+) -> io::Result<()> {
     if n <= room.len() {
-        let mut next = io::large_buffer();
-        lend_cells(p, &mut room[..n], &mut next, cells, image);
+        let mut next = [0u8; ROOM];
+        lend_cells(out, p, &mut room[..n], &mut next, cells, image)?;
     }
+    Ok(())
 }
 
 // Request 4: an encoder's run, sealed.
-fn answer_encoder(p: &[u8]) {
+fn answer_encoder(out: &mut impl Write, p: &[u8]) -> io::Result<()> {
     if p.len() < 23 {
-        telling::say(b"length\n");
-        return;
+        return telling::say(out, b"length\n");
     }
     let filter = fields::short_at(p, 12) as usize;
     let cells = fields::short_at(p, 14) as usize;
     let image = fields::short_at(p, 16) as usize;
     if 8192 < filter || 32768 < cells || 41984 < image || !packets_whole(p) {
-        telling::say(b"length\n");
-        return;
+        return telling::say(out, b"length\n");
     }
     if 4 < p[18] {
-        telling::say(b"mode\n");
-        return;
+        return telling::say(out, b"mode\n");
     }
-    let mut room = io::large_buffer();
-    lend_filter(p, &mut room, filter, cells, image);
+    let mut room = [0u8; ROOM];
+    lend_filter(out, p, &mut room, filter, cells, image)
 }
 
-fn say_refusal(number: u64, block: usize) {
-    telling::say_number(number);
-    telling::say_next(block as u64);
+fn say_refusal(out: &mut impl Write, number: u64, block: usize) -> io::Result<()> {
+    telling::say_number(out, number)?;
+    telling::say_next(out, block as u64)
 }
 
-fn say_image(z: Sizes, salt: u32) {
-    telling::say(b"0");
-    telling::say_next(z.kf as u64);
-    telling::say_next(z.f as u64);
-    telling::say_next(z.k as u64);
-    telling::say_next(z.q as u64);
-    telling::say_next(salt as u64);
+fn say_image(out: &mut impl Write, z: Sizes, salt: u32) -> io::Result<()> {
+    telling::say(out, b"0")?;
+    telling::say_next(out, z.kf as u64)?;
+    telling::say_next(out, z.f as u64)?;
+    telling::say_next(out, z.k as u64)?;
+    telling::say_next(out, z.q as u64)?;
+    telling::say_next(out, salt as u64)
 }
 
 // Request 5: an image is read.
-fn answer_read(p: &[u8]) {
+fn answer_read(out: &mut impl Write, p: &[u8]) -> io::Result<()> {
     if p.len() < 4 {
-        telling::say(b"length\n");
-        return;
+        return telling::say(out, b"length\n");
     }
     if 41988 < p.len() {
-        telling::say(b"length\n");
-        return;
+        return telling::say(out, b"length\n");
     }
     let slot = fields::long_at(p, 0);
     let from = 4;
     match reading::read(&p[from..], slot) {
-        Reading::Image(z, salt) => say_image(z, salt),
-        Reading::Length => say_refusal(1, 0),
-        Reading::Check(n) => say_refusal(2, n),
-        Reading::Form(n) => say_refusal(3, n),
-        Reading::Mixed(n) => say_refusal(4, n),
-        Reading::Stale => say_refusal(5, 0),
+        Reading::Image(z, salt) => say_image(out, z, salt)?,
+        Reading::Length => say_refusal(out, 1, 0)?,
+        Reading::Check(n) => say_refusal(out, 2, n)?,
+        Reading::Form(n) => say_refusal(out, 3, n)?,
+        Reading::Mixed(n) => say_refusal(out, 4, n)?,
+        Reading::Stale => say_refusal(out, 5, 0)?,
     }
-    telling::say(b"\n");
+    telling::say(out, b"\n")
 }
 
-fn answer(op: u8, payload: &[u8]) {
+fn answer(out: &mut impl Write, op: u8, payload: &[u8]) -> io::Result<()> {
     match op {
-        1 => answer_hash(payload),
-        2 => answer_key(payload),
-        3 => answer_places(payload),
-        4 => answer_encoder(payload),
-        5 => answer_read(payload),
-        _ => telling::say(b"op\n"),
+        1 => answer_hash(out, payload),
+        2 => answer_key(out, payload),
+        3 => answer_places(out, payload),
+        4 => answer_encoder(out, payload),
+        5 => answer_read(out, payload),
+        _ => telling::say(out, b"op\n"),
     }
 }
 
 // A payload is read and answered; whether there was a whole one.
-fn serve_payload(op: u8, room: &mut [u8]) -> bool {
-    if io::read_full(STDIN_FILENO, room) < room.len() {
-        return false;
+fn serve_payload(
+    input: &mut impl Read,
+    out: &mut impl Write,
+    op: u8,
+    room: &mut [u8],
+) -> io::Result<bool> {
+    if telling::read_full(input, room)? < room.len() {
+        return Ok(false);
     }
-    answer(op, room);
-    true
+    answer(out, op, room)?;
+    Ok(true)
 }
 
-fn serve_within(op: u8, n: usize, room: &mut [u8]) -> bool {
+fn serve_within(
+    input: &mut impl Read,
+    out: &mut impl Write,
+    op: u8,
+    n: usize,
+    room: &mut [u8],
+) -> io::Result<bool> {
     if room.len() < n {
-        return false;
+        return Ok(false);
     }
-    serve_payload(op, &mut room[..n])
+    serve_payload(input, out, op, &mut room[..n])
 }
 
 // One request; whether there was a whole one.
-fn serve() -> bool {
+fn serve(input: &mut impl Read, out: &mut impl Write) -> io::Result<bool> {
     let mut head = [0u8; 4];
-    if io::read_full(STDIN_FILENO, &mut head) < 4 {
-        return false;
+    if telling::read_full(input, &mut head)? < 4 {
+        return Ok(false);
     }
     let n = wide(head[1]) * 65536 + wide(head[2]) * 256 + wide(head[3]);
-    let mut room = io::large_buffer();
-    serve_within(head[0], n, &mut room)
+    let mut room = [0u8; ROOM];
+    serve_within(input, out, head[0], n, &mut room)
 }
 
-fn main() {
+fn main(rt: HostRuntime) -> io::Result<()> {
+    let mut input = rt.stdin();
+    let mut out = rt.stdout();
     let mut turns = u64::MAX;
-    while turns > 0 && serve() {
+    while turns > 0 && serve(&mut input, &mut out)? {
         turns -= 1;
     }
+    Ok(())
 }

@@ -3,7 +3,6 @@ use Rattle.list.specs.Records.{records}
 use Rattle.table.specs.Table.{tab}
 use Rattle.parts.proofs.Giving.{handed-part, listed_in}
 use borrow.Author.Rules.{rules}
-use Rattle.parts.proofs.give.Lts as lts
 use Rattle.parts.proofs.give.Goals as goal
 
 pub handed_in-requires : goal.handed_in-requires

@@ -1,11 +1,8 @@
-use mathlib.Core.Path.{refl, ◌∙◌}
-use Prim.Native.Nat.{◌-◌}
 use native.Mathlib.Omega.{arith}
 use Rattle.list.specs.Records.{records}
 use Rattle.table.specs.Table.{tab}
 use Rattle.layout.proofs.Ranges.{table-high}
-use Rattle.parts.proofs.Giving.{Giving, giving-start, giving-listed, giving-handed, giving-twelves, giving-alike, giving-inside, giving-in, giving-few, giving-hands, giving-on, giving-done}
-use Rattle.parts.proofs.give_each.Lts as lts
+use Rattle.parts.proofs.Giving.{giving-start, giving-listed, giving-handed, giving-twelves, giving-alike, giving-inside, giving-in, giving-few, giving-hands, giving-on, giving-done}
 use Rattle.parts.proofs.give_each.Goals as goal
 
 pub loop-i-init : goal.loop-i-init

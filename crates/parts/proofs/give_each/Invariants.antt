@@ -1,12 +1,7 @@
-
-use mathlib.Core.Path.{refl, ◌∙◌}
 use Prim.Native.Nat.{◌-◌}
-use native.Mathlib.Omega.{arith}
 use Rattle.list.specs.Records.{records}
 use Rattle.table.specs.Table.{tab}
-use Rattle.layout.proofs.Ranges.{table-high}
-use Rattle.parts.proofs.Giving.{Giving, giving-start, giving-listed, giving-handed, giving-twelves, giving-alike, giving-inside, giving-in, giving-few, giving-hands, giving-on, giving-done}
-use Rattle.parts.proofs.give_each.Lts as lts
+use Rattle.parts.proofs.Giving.{Giving}
 use Rattle.parts.proofs.give_each.Given as goal
 
 abbrev pub invariant-loop-i : goal.invariant-loop-i

@@ -3,15 +3,14 @@ use mathlib.Core.List.{List, ◌++◌}
 use Prim.Native.Nat.{ℕ}
 use Rattle.parts.proofs.Areas.{key-few, length-copied, key-copied}
 use native.Mathlib.Omega.{arith}
-use lib.ListN.{take, drop, length, replicate, length-append}
+use lib.ListN.{drop, replicate, length-append}
 use lib.Seq.{length-take-le}
-use Rattle.handing.specs.Hand.{Hands, handing}
+use Rattle.handing.specs.Hand.{Hands}
 use Rattle.table.specs.Table.{tab}
 use Rattle.list.specs.Records.{records}
 use Rattle.parts.specs.Areas.{table_at, list_at_place, between, hand_part}
 use Rattle.parts.specs.Sides.{switch}
 use borrow.Author.Rules.{rules}
-use Rattle.parts.proofs.hand_next.Lts as lts
 use Rattle.parts.proofs.hand_next.Goals as goal
 
 pub overflow_add-end : goal.overflow_add-end

@@ -3,8 +3,6 @@ use Rattle.parts.specs.Areas.{table_at, list_at_place, with_table, with_list}
 use Rattle.table.specs.Table.{tab}
 use Rattle.list.specs.Records.{records}
 use Rattle.parts.proofs.Areas.{length-laid, part-handed}
-use borrow.Author.Rules.{rules}
-use Rattle.parts.proofs.hand_part.Lts as lts
 use Rattle.parts.proofs.hand_part.Goals as goal
 
 pub slice_bounds-hand-count : goal.slice_bounds-hand-count

@@ -1,6 +1,5 @@
 use Rattle.list.specs.Records.{is_handed, handed_in}
 use borrow.Author.Rules.{rules}
-use Rattle.parts.proofs.handed_in.Lts as lts
 use Rattle.parts.proofs.handed_in.Goals as goal
 
 pub slice_bounds-flagged_in-count : goal.slice_bounds-flagged_in-count

@@ -2,8 +2,6 @@ use mathlib.Core.Path.{ap}
 use native.Mathlib.Omega.{arith}
 use Rattle.parts.specs.Areas.{table_at, list_at_place, laid}
 use Rattle.parts.proofs.Areas.{length-laid}
-use borrow.Author.Rules.{rules}
-use Rattle.parts.proofs.is_session_part.Lts as lts
 use Rattle.parts.proofs.is_session_part.Goals as goal
 
 pub slice_bounds-is_session_seen-count : goal.slice_bounds-is_session_seen-count

@@ -1,13 +1,11 @@
-use mathlib.Core.Path.{◌∙◌, ap₂}
+use mathlib.Core.Path.{ap₂}
 use Prim.Native.Nat.{◌*◌, ◌+◌, ◌/◌}
 use native.Mathlib.Nat.{mul-le-mul}
 use native.Mathlib.Omega.{arith}
 use Rattle.layout.specs.Sizes.{filter_bytes}
 use Rattle.layout.proofs.Ranges.{table-high, cell-high}
-use Rattle.parts.specs.declared.Place.{Place}
 use Rattle.parts.specs.Areas.{place_after}
 use borrow.Author.Rules.{rules}
-use Rattle.parts.proofs.place_after.Lts as lts
 use Rattle.parts.proofs.place_after.Goals as goal
 
 pub table_cells-n-requires : goal.table_cells-n-requires

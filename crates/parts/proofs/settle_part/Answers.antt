@@ -3,8 +3,6 @@ use Rattle.table.specs.Table.{tab}
 use Rattle.list.specs.Records.{records}
 use Rattle.parts.proofs.Areas.{length-laid, part-settled}
 use native.Mathlib.Omega.{arith}
-use borrow.Author.Rules.{rules}
-use Rattle.parts.proofs.settle_part.Lts as lts
 use Rattle.parts.proofs.settle_part.Goals as goal
 
 pub slice_bounds-settle_all-count : goal.slice_bounds-settle_all-count
