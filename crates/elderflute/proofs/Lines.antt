@@ -13,6 +13,7 @@ use lib.Seq.{sets}
 use Rattle.layout.specs.Sizes.{in_range, ipv4_layout}
 use Rattle.room.specs.declared.Session.{Session}
 use Rattle.room.specs.Memory.{Memory}
+use Rattle.summary.specs.declared.Report.{Report}
 use Rattle.session.specs.declared.Reported.{Reported}
 use Rattle.session.specs.declared.Reported.TheVariants as reported
 use Rattle.session.specs.Calls.{report_on, report_number}
@@ -23,24 +24,19 @@ use Rattle.printing.proofs.Settled.{Listed, told-listed}
 use Rattle.elderflute.specs.Sessions.{printing, lines_leave, lines_of}
 
 -- ---- by what the report answers
-refused-leaves : (a : Reported) (text lines : List ℕ) (written : ℕ) → OneOf (1 ∷ 2 ∷ []) (tag_of declared.the_type a)
+refused-leaves : (a : Reported) (text lines : List ℕ) (written : ℕ) → ((t : Report) → a ≡ reported.Told t → ⊥)
     → printing (report_number a) lines written ≡ lines_leave a text lines written
-refused-leaves (reported.Told t) text lines written h = absurd (⊎_elim (λ q. omega arith) (λ q. omega arith) h)
+refused-leaves (reported.Told t) text lines written h = absurd (h t refl)
 refused-leaves reported.NotSession text lines written h = refl
 refused-leaves reported.BadRoom text lines written h = refl
 
-told-leaves : (a : Reported) (text lines : List ℕ) (written : ℕ) {lines' : List ℕ} {n : ℕ} → OneOf (0 ∷ []) (tag_of declared.the_type a)
+told-leaves : {t : Report} (a : Reported) (text lines : List ℕ) (written : ℕ) {lines' : List ℕ} {n : ℕ} → a ≡ reported.Told t
     → n ≡ length text → lines' ≡ sets lines 0 text → printing 0 lines' n ≡ lines_leave a text lines written
-told-leaves (reported.Told t) text lines written h e f = rw (e, f)
-told-leaves reported.NotSession text lines written h e f = absurd (omega (arith, h))
-told-leaves reported.BadRoom text lines written h e f = absurd (omega (arith, h))
+told-leaves a text lines written h e f = rw (h, e, f)
 
 -- a session that is reported on has cells and records enough for its lines
-pub lines_fit : (s : Session) (m : Memory) (a : Reported) → a ≡ report_on ipv4_layout s m → OneOf (0 ∷ []) (tag_of declared.the_type a)
-    → Listed s.listed m
-lines_fit s m (reported.Told t) e h = told-listed s m (sym e)
-lines_fit s m reported.NotSession e h = absurd (omega (arith, h))
-lines_fit s m reported.BadRoom e h = absurd (omega (arith, h))
+pub lines_fit : (s : Session) (m : Memory) {t : Report} (a : Reported) → a ≡ report_on ipv4_layout s m → a ≡ reported.Told t → Listed s.listed m
+lines_fit s m a e h = told-listed s m (sym e ∙ h)
 
 -- ---- the call
 module _ (s : Session) (lines : List ℕ) (written : ℕ) (m : Memory) where
@@ -63,10 +59,10 @@ module _ (s : Session) (lines : List ℕ) (written : ℕ) (m : Memory) where
     leaves : lines_leave a text lines written ≡ lines_of s lines written m
     leaves = ap (λ x. lines_leave x text lines written) e ∙ tested-all
 
-    pub lines-refused : {n : ℕ} → OneOf (1 ∷ 2 ∷ []) (tag_of declared.the_type a) → n ≡ report_number a
+    pub lines-refused : {n : ℕ} → ((t : Report) → a ≡ reported.Told t → ⊥) → n ≡ report_number a
         → printing n lines written ≡ lines_of s lines written m
     lines-refused t q = ap (λ n. printing n lines written) q ∙ refused-leaves a text lines written t ∙ leaves
 
-    pub lines-done : {lines' : List ℕ} {n : ℕ} → OneOf (0 ∷ []) (tag_of declared.the_type a) → Put lines lines' 0 n text
+    pub lines-done : {lines' : List ℕ} {n : ℕ} {t : Report} → a ≡ reported.Told t → Put lines lines' 0 n text
         → printing 0 lines' n ≡ lines_of s lines written m
     lines-done t p = told-leaves a text lines written t (omega (arith, p.place)) p.bytes ∙ leaves

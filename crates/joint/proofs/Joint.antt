@@ -1,7 +1,6 @@
 -- The exchange call under demand 2's premises: it leaves sessions of the same flowsets; at both switches it ends with 0, at its end, each list is
 -- the joint closure, and hand-overs add no count.
 use mathlib.Core.Path.{◌≡◌, sym, ap, ap₂, subst, ◌∙◌}
-use mathlib.Core.Bool.{true}
 use Rattle.layout.specs.declared.Layout.{Layout}
 use Rattle.exchange.specs.Exchange.{exchange_number}
 use Rattle.theory.specs.HandOver.{Switch}

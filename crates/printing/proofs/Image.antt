@@ -6,6 +6,7 @@ use Prim.Native.Nat.{ℕ, ◌<◌}
 use native.Mathlib.Omega.{arith}
 use types.Run.{OneOf}
 use denote.Enum.Declared.{tag_of}
+use Rattle.layout.specs.declared.Sizes.{Sizes}
 use Rattle.layout.specs.Sizes.{Ranged, ipv4_layout}
 use Rattle.layout.proofs.Ranges.{lays-ipv4}
 use Rattle.reading.specs.declared.Reading.{Reading}
@@ -49,12 +50,9 @@ sizes-ranged image slot = go (read_of ipv4_layout image slot) refl
     go read.Stale e = least
 
 -- where no image is read, they are the least
-pub sizes-least : (r : Reading) → OneOf (1 ∷ 2 ∷ 3 ∷ 4 ∷ 5 ∷ []) (tag_of reading.the_type r)
+pub sizes-least : (r : Reading) → ((z : Sizes) (salt : ℕ) → r ≡ read.Image z salt → ⊥)
     → least_sizes ≡ sizes_read r
-sizes-least (read.Image z salt) h =
-    absurd
-    (⊎_elim (λ e. omega arith)
-    (λ o. ⊎_elim (λ e. omega arith) (λ o. ⊎_elim (λ e. omega arith) (λ o. ⊎_elim (λ e. omega arith) (λ e. omega arith) o) o) o) h)
+sizes-least (read.Image z salt) h = absurd (h z salt refl)
 sizes-least read.Length h = refl
 sizes-least (read.Check n) h = refl
 sizes-least (read.Form n) h = refl
@@ -73,12 +71,8 @@ refused-are slot image m (read.Mixed n) h = refl
 refused-are slot image m read.Stale h = refl
 
 -- a session is no refusal
-not-refused : {A : Type 0} (s : Session) → OneOf (1 ∷ 2 ∷ 3 ∷ 4 ∷ 5 ∷ 6 ∷ []) (tag_of declared.the_type (Open s)) → A
-not-refused s h =
-    absurd
-    (⊎_elim (λ e. omega arith)
-    (λ o. ⊎_elim (λ e. omega arith)
-    (λ o. ⊎_elim (λ e. omega arith) (λ o. ⊎_elim (λ e. omega arith) (λ o. ⊎_elim (λ e. omega arith) (λ e. omega arith) o) o) o) o) h)
+not-refused : {A : Type 0} (s : Session) → ((x : Session) → Open s ≡ Open x → ⊥) → A
+not-refused s h = absurd (h s refl)
 
 module _ (image : List ℕ) (slot : ℕ) (m : Memory) {o : Opened} {m' : Memory} (q : opening o m' ≡ open_of ipv4_layout image slot m) where
   -- a session's lines are the image's
@@ -99,7 +93,7 @@ module _ (image : List ℕ) (slot : ℕ) (m : Memory) {o : Opened} {m' : Memory}
       ∙ refused-are slot image m r h
 
   by-reading : (r : Reading) → read_of ipv4_layout image slot ≡ r → Rooms ipv4_layout (sizes_read r) m
-      → OneOf (1 ∷ 2 ∷ 3 ∷ 4 ∷ 5 ∷ 6 ∷ []) (tag_of declared.the_type o)
+      → ((x : Session) → o ≡ Open x → ⊥)
       → refused_line (open_number o) ≡ read_lines slot image r
   by-reading (read.Image z salt) e f h =
       let fits = rooms-asked ipv4_layout z lays-ipv4 (accepted ipv4_layout z salt slot image e).sizes m f in
@@ -114,6 +108,6 @@ module _ (image : List ℕ) (slot : ℕ) (m : Memory) {o : Opened} {m' : Memory}
 
   -- in room of the image's size, a refusal is the image's
   pub image-refused : {n : ℕ} → Rooms ipv4_layout (sizes_read (read_of ipv4_layout image slot)) m
-      → OneOf (1 ∷ 2 ∷ 3 ∷ 4 ∷ 5 ∷ 6 ∷ []) (tag_of declared.the_type o) → n ≡ open_number o → refused_line n ≡ image_lines slot image
+      → ((x : Session) → o ≡ Open x → ⊥) → n ≡ open_number o → refused_line n ≡ image_lines slot image
   unfolding image_lines
   image-refused f h i = ap refused_line i ∙ by-reading (read_of ipv4_layout image slot) refl f h

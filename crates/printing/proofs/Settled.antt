@@ -106,11 +106,10 @@ pub told-listed : (s : Session) (m : Memory) {t : Report} → report_on ipv4_lay
 told-listed s m e =
     let p = told-passes ipv4_layout s m e in room-listed s m p (listed-high ipv4_layout s m lays-ipv4 p)
 
-refused-are : (slot salt : ℕ) (m : Memory) (e : Settled) → OneOf (1 ∷ 2 ∷ 3 ∷ []) (tag_of declared.the_type e)
+refused-are : (slot salt : ℕ) (m : Memory) (e : Settled) → ((n : ℕ) → e ≡ settled.Done n → ⊥)
     → refused_line (settle_number e) ≡ settled_lines slot salt m e
 unfolding settled_lines
-refused-are slot salt m (settled.Done n) h =
-    absurd (⊎_elim (λ q. omega arith) (λ o. ⊎_elim (λ q. omega arith) (λ q. omega arith) o) h)
+refused-are slot salt m (settled.Done n) h = absurd (h n refl)
 refused-are slot salt m (settled.Damaged n c) h = refl
 refused-are slot salt m settled.NotSession h = refl
 refused-are slot salt m settled.BadRoom h = refl
@@ -129,5 +128,5 @@ module _ (s : Session) (m : Memory) {e : Settled} {m' : Memory} (q : settling_to
   unfolding settled_lines
   session-done d = rw d at lines_are
 
-  pub session-refused : {n : ℕ} → OneOf (1 ∷ 2 ∷ 3 ∷ []) (tag_of declared.the_type e) → n ≡ settle_number e → refused_line n ≡ session_lines s m
+  pub session-refused : {n : ℕ} → ((i : ℕ) → e ≡ settled.Done i → ⊥) → n ≡ settle_number e → refused_line n ≡ session_lines s m
   session-refused h i = ap refused_line i ∙ refused-are s.slot s.salt m' e h ∙ lines_are

@@ -8,64 +8,21 @@ use Rattle.rounds.proofs.all_rounds.Goals as goal
 
 pub loop-rest-init : goal.loop-rest-init
 loop-rest-init c =
-    let start = c in
-    let a = start.args in
-    going_start a.l a.s a.t a.p a.e a.filter.now a.most a.a a.b (areas (tab a.xors.now a.flows.now a.unknowns.now a.positions.now a.marks.now) a.packets.now (records a.keys.now a.counts.now a.flags.now) a.seen.now) start.requires.0
+    let a = c.args in
+    going_start a.l a.s a.t a.p a.e a.filter.now a.most a.a a.b (areas (tab a.xors.now a.flows.now a.unknowns.now a.positions.now a.marks.now) a.packets.now (records a.keys.now a.counts.now a.flags.now) a.seen.now) c.requires.0
 
 pub one_round-next-requires : goal.one_round-next-requires
 one_round-next-requires c =
-    let start = c in
-    let a = start.args in
-    (c.loop-rest.invariant.both, start.requires.1, going-few a.l a.s a.t a.p a.e a.filter.now c.loop-rest.invariant start.requires.2, start.requires.3, start.requires.4)
+    let a = c.args in
+    (c.loop-rest.invariant.both, c.requires.1, going-few a.l a.s a.t a.p a.e a.filter.now c.loop-rest.invariant c.requires.2, c.requires.3, c.requires.4)
 
 pub is_over-requires : goal.is_over-requires
 is_over-requires c = tt
 
-pub shape_of-xors-then-is_over : goal.shape_of-xors-then-is_over
-shape_of-xors-then-is_over c =
-    c.one_round-next.auto.xors ∙ c.loop-rest.invariant.both.ends.full.xors-full ∙ sym c.requires.0.ends.full.xors-full
-
-pub shape_of-flows-then-is_over : goal.shape_of-flows-then-is_over
-shape_of-flows-then-is_over c =
-    c.one_round-next.auto.flows ∙ c.loop-rest.invariant.both.ends.full.flows-full ∙ sym c.requires.0.ends.full.flows-full
-
-pub shape_of-packets-then-is_over : goal.shape_of-packets-then-is_over
-shape_of-packets-then-is_over c =
-    c.one_round-next.auto.packets ∙ c.loop-rest.invariant.both.ends.full.packets-full ∙ sym c.requires.0.ends.full.packets-full
-
-pub shape_of-unknowns-then-is_over : goal.shape_of-unknowns-then-is_over
-shape_of-unknowns-then-is_over c =
-    c.one_round-next.auto.unknowns ∙ c.loop-rest.invariant.both.ends.full.unknowns-full ∙ sym c.requires.0.ends.full.unknowns-full
-
-pub shape_of-positions-then-is_over : goal.shape_of-positions-then-is_over
-shape_of-positions-then-is_over c =
-    c.one_round-next.auto.positions ∙ c.loop-rest.invariant.both.ends.full.positions-full ∙ sym c.requires.0.ends.full.positions-full
-
-pub shape_of-marks-then-is_over : goal.shape_of-marks-then-is_over
-shape_of-marks-then-is_over c =
-    c.one_round-next.auto.marks ∙ c.loop-rest.invariant.both.ends.full.marks-full ∙ sym c.requires.0.ends.full.marks-full
-
-pub shape_of-keys-then-is_over : goal.shape_of-keys-then-is_over
-shape_of-keys-then-is_over c =
-    c.one_round-next.auto.keys ∙ c.loop-rest.invariant.both.ends.full.keys-full ∙ sym c.requires.0.ends.full.keys-full
-
-pub shape_of-counts-then-is_over : goal.shape_of-counts-then-is_over
-shape_of-counts-then-is_over c =
-    c.one_round-next.auto.counts ∙ c.loop-rest.invariant.both.ends.full.counts-full ∙ sym c.requires.0.ends.full.counts-full
-
-pub shape_of-flags-then-is_over : goal.shape_of-flags-then-is_over
-shape_of-flags-then-is_over c =
-    c.one_round-next.auto.flags ∙ c.loop-rest.invariant.both.ends.full.flags_full ∙ sym c.requires.0.ends.full.flags_full
-
-pub shape_of-seen-then-is_over : goal.shape_of-seen-then-is_over
-shape_of-seen-then-is_over c =
-    c.one_round-next.auto.seen ∙ c.loop-rest.invariant.both.ends.seen-full ∙ sym c.requires.0.ends.seen-full
-
 pub returns-then-is_over : goal.returns-then-is_over
 returns-then-is_over c =
-    let start = c in
-    let a = start.args in
-    going-over a.l a.s a.t a.p a.e a.filter.now c.loop-rest.invariant start.requires.1 (omega (arith, c.loop-rest-test.true)) c.one_round-next.ensures c.is_over.ensures c.if-is_over.true
+    let a = c.args in
+    going-over a.l a.s a.t a.p a.e a.filter.now c.loop-rest.invariant c.requires.1 (omega (arith, c.loop-rest-test.true)) c.one_round-next.ensures c.is_over.ensures c.if-is_over.true
 
 pub overflow_sub-rest : goal.overflow_sub-rest
 overflow_sub-rest c =
@@ -77,9 +34,8 @@ loop-rest-smaller c =
 
 pub loop-rest-preserved : goal.loop-rest-preserved
 loop-rest-preserved c =
-    let start = c in
-    let a = start.args in
-    going_on a.l a.s a.t a.p a.e a.filter.now c.loop-rest.invariant start.requires.1 (omega (arith, c.loop-rest-test.true)) c.one_round-next.ensures c.is_over.ensures c.if-is_over.false
+    let a = c.args in
+    going_on a.l a.s a.t a.p a.e a.filter.now c.loop-rest.invariant c.requires.1 (omega (arith, c.loop-rest-test.true)) c.one_round-next.ensures c.is_over.ensures c.if-is_over.false
 
 pub shape_of-xors : goal.shape_of-xors
 shape_of-xors c =
@@ -123,6 +79,5 @@ shape_of-seen c =
 
 pub returns : goal.returns
 returns c =
-    let start = c in
-    let a = start.args in
+    let a = c.args in
     going_done a.l a.s a.t a.p a.e a.filter.now c.loop-rest.invariant (omega (arith, c.loop-rest-test.false))

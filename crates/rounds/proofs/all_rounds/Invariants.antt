@@ -1,4 +1,3 @@
-
 use Rattle.list.specs.Records.{records}
 use Rattle.table.specs.Table.{tab}
 use Rattle.parts.specs.Areas.{between, areas}
