@@ -77,6 +77,15 @@ zeros most = records (replicate (most * 13) 0) (replicate most 0) (replicate mos
 zero-arrays : (most : ℕ) → Arrays most (zeros most)
 zero-arrays most = record { keys-fit = length-replicate {A = ℕ} (most * 13) 0; counts-fit = length-replicate {A = ℕ} most 0; flags-fit = length-replicate {A = ℕ} most 0 }
 
+-- arrays that keep their lengths
+pub arrays-kept : (most : ℕ) (old new : Records) → Arrays most old → length new.keys ≡ length old.keys → length new.counts ≡ length old.counts
+    → length new.flags ≡ length old.flags → Arrays most new
+arrays-kept most old new o a b c = record { keys-fit = a ∙ o.keys-fit; counts-fit = b ∙ o.counts-fit; flags-fit = c ∙ o.flags-fit }
+
+pub arrays-first : (most : ℕ) (new : Records) → length new.keys ≡ length (zeros most).keys → length new.counts ≡ length (zeros most).counts
+    → length new.flags ≡ length (zeros most).flags → Arrays most new
+arrays-first most new = arrays-kept most (zeros most) new (zero-arrays most)
+
 module _ (most : ℕ) {n k : ℕ} (list : List Record) (whole : (n ≡ length list) × AllFit list) (some : k ≡ taken most n) where
   taken_is : k ≡ taken most (length list)
   taken_is = some ∙ ap (taken most) whole.0

@@ -3,7 +3,7 @@ use mathlib.Core.Path.{◌≡◌, refl, sym, ap, ap₂, ◌∙◌}
 use mathlib.Core.Bool.{Bool, true, cond}
 use mathlib.Core.List.{List, ◌++◌}
 use mathlib.Core.Logic.{inl, inr}
-use Prim.Native.Nat.{ℕ, ◌+◌, ◌-◌, ◌*◌, ◌<◌, ◌≤◌}
+use Prim.Native.Nat.{ℕ, ◌+◌, ◌*◌, ◌<◌, ◌≤◌}
 use native.Mathlib.Decide.{ℕ_discrete, dec_lt}
 use native.Mathlib.Nat.{mul-le-mul, mul-le-mul_right}
 use native.Mathlib.Omega.{arith}
@@ -21,7 +21,7 @@ use Rattle.layout.specs.declared.Layout.{Layout}
 use Rattle.layout.specs.declared.Sizes.{Sizes}
 use Rattle.layout.specs.Sizes.{Lays, Ranged, table_cells}
 use Rattle.layout.proofs.Ranges.{table-high, cell-high}
-use Rattle.list.specs.Records.{Records, records, Room, key_at, is_known, is_handed, handed_in, peeled_in, same_bytes, is_listed, appended, known_at, with_count}
+use Rattle.list.specs.Records.{Records, Room, key_at, is_known, is_handed, handed_in, peeled_in, same_bytes, is_listed, appended, known_at, with_count}
 use Rattle.laws.proofs.Rows.{row_within}
 
 -- ---- keys

@@ -9,7 +9,7 @@ use Rattle.theory.specs.Encode.{Key, sum_over, total, count}
 use Rattle.theory.specs.Session.{Session, listed, handed_over, counted}
 use Rattle.theory.specs.HandOver.{Switch}
 use Rattle.theory.specs.Invariant.{Counted, Holds}
-use Rattle.theory.specs.Runs.{Run, handed, PeelClosed, AtRest}
+use Rattle.theory.specs.Runs.{Run, PeelClosed, AtRest}
 use Rattle.theory.proofs.Records.{where-listed}
 use Rattle.theory.proofs.Encode.{cell-path}
 use Rattle.theory.proofs.Outside.{outside-in, outside-make, outside-same, only-mono}

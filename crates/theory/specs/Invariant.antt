@@ -1,5 +1,5 @@
 -- What a session of a flowset's table always is: each cell holds what is left of the flowset.
-use Rattle.std.specs.Prelude.{◌≡◌, Bool, true, not, ◌&&◌, List, [], ◌∷◌, ℕ, ◌<◌, replicate}
+use Rattle.std.specs.Prelude.{◌≡◌, true, List, [], ◌∷◌, ℕ, ◌<◌, replicate}
 use Rattle.laws.specs.Xor.{xor_bytes}
 use Rattle.laws.specs.Upto.{any_upto}
 use Rattle.theory.specs.Encode.{Key, among, Distinct, sum_over, total, count, Placement, encode, FlowSet, outside}

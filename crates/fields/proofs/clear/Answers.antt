@@ -1,9 +1,7 @@
 -- `fields::clear` meets its contract.
 use mathlib.Core.Path.{refl}
-use Prim.Native.Nat.{◌-◌}
 use native.Mathlib.Omega.{arith}
-use lib.ListN.{length}
-use Rattle.fields.proofs.Runs.{Cleared, cleared-turn, cleared-all}
+use Rattle.fields.proofs.Runs.{cleared-turn, cleared-all}
 use Rattle.fields.proofs.clear.Goals as goal
 
 pub loop-i-init : goal.loop-i-init

@@ -1,9 +1,7 @@
 -- `fields::clear` meets its contract.
-use mathlib.Core.Path.{refl}
 use Prim.Native.Nat.{◌-◌}
-use native.Mathlib.Omega.{arith}
 use lib.ListN.{length}
-use Rattle.fields.proofs.Runs.{Cleared, cleared-turn, cleared-all}
+use Rattle.fields.proofs.Runs.{Cleared}
 use Rattle.fields.proofs.clear.Given as goal
 
 abbrev pub invariant-loop-i : goal.invariant-loop-i

@@ -1,10 +1,9 @@
 -- `fields::copy_in` meets its contract.
-use mathlib.Core.Path.{◌≡◌, refl}
-use mathlib.Core.List.{◌++◌}
-use Prim.Native.Nat.{◌≤◌, ◌-◌}
+use mathlib.Core.Path.{refl}
+use Prim.Native.Nat.{◌≤◌}
 use native.Mathlib.Omega.{arith}
 use native.Mathlib.Numerals.{add-one}
-use lib.ListN.{length, take, drop, length-set}
+use lib.ListN.{length, length-set}
 use mathlib.Core.List.{append-nil}
 use lib.ListN.{drop_of_length-le}
 use lib.Seq.{take_all}

@@ -1,14 +1,8 @@
 -- `fields::copy_in` meets its contract.
-use mathlib.Core.Path.{◌≡◌, refl}
+use mathlib.Core.Path.{◌≡◌}
 use mathlib.Core.List.{◌++◌}
 use Prim.Native.Nat.{◌≤◌, ◌-◌}
-use native.Mathlib.Omega.{arith}
-use native.Mathlib.Numerals.{add-one}
-use lib.ListN.{length, take, drop, length-set}
-use mathlib.Core.List.{append-nil}
-use lib.ListN.{drop_of_length-le}
-use lib.Seq.{take_all}
-use Rattle.fields.proofs.Runs.{copy-turn}
+use lib.ListN.{length, take, drop}
 use Rattle.fields.proofs.copy_in.Given as goal
 
 abbrev pub invariant-loop-i : goal.invariant-loop-i

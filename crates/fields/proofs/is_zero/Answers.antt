@@ -1,9 +1,6 @@
 -- `fields::is_zero` meets its contract.
-use mathlib.Core.Path.{◌≡◌, refl}
-use Prim.Native.Nat.{◌-◌, ◌≤◌}
+use mathlib.Core.Path.{refl}
 use native.Mathlib.Omega.{arith}
-use lib.Dec.{eqb}
-use lib.ListN.{length, get_or}
 use Rattle.laws.specs.Upto.{all_upto}
 use Rattle.laws.proofs.Zeros.{zero_turn, zero-end}
 use Rattle.fields.proofs.is_zero.Goals as goal

@@ -1,10 +1,9 @@
 -- `fields::xor_in` meets its contract.
-use mathlib.Core.Path.{◌≡◌, refl, sym, ◌∙◌}
-use Prim.Native.Nat.{◌≤◌, ◌-◌}
+use mathlib.Core.Path.{refl, sym, ◌∙◌}
 use native.Mathlib.Omega.{arith}
 use native.Mathlib.Numerals.{add-one}
-use lib.ListN.{length, length-set}
-use Rattle.fields.proofs.Runs.{xor_upto, xor-none, xor-turn, xor-whole}
+use lib.ListN.{length-set}
+use Rattle.fields.proofs.Runs.{xor-none, xor-turn, xor-whole}
 use Rattle.fields.proofs.xor_in.Goals as goal
 
 pub loop-i-init : goal.loop-i-init

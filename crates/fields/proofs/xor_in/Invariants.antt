@@ -1,10 +1,8 @@
 -- `fields::xor_in` meets its contract.
-use mathlib.Core.Path.{◌≡◌, refl, sym, ◌∙◌}
+use mathlib.Core.Path.{◌≡◌}
 use Prim.Native.Nat.{◌≤◌, ◌-◌}
-use native.Mathlib.Omega.{arith}
-use native.Mathlib.Numerals.{add-one}
-use lib.ListN.{length, length-set}
-use Rattle.fields.proofs.Runs.{xor_upto, xor-none, xor-turn, xor-whole}
+use lib.ListN.{length}
+use Rattle.fields.proofs.Runs.{xor_upto}
 use Rattle.fields.proofs.xor_in.Given as goal
 
 abbrev pub invariant-loop-i : goal.invariant-loop-i

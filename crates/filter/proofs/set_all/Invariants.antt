@@ -1,12 +1,8 @@
 -- `filter::set_all` meets its contract.
-use mathlib.Core.Path.{◌≡◌, refl, sym, ap, ◌∙◌}
+use mathlib.Core.Path.{◌≡◌}
 use Prim.Native.Nat.{◌≤◌, ◌-◌}
-use native.Mathlib.Omega.{arith}
-use lib.ListN.{length, get_or}
-use Rattle.laws.specs.Upto.{each_upto}
-use Rattle.laws.proofs.Upto.{each_more}
-use Rattle.filter.specs.Filter.{with_bit, with_bits}
-use Rattle.filter.proofs.Held.{length-with}
+use lib.ListN.{length}
+use Rattle.filter.specs.Filter.{with_bits}
 use Rattle.filter.proofs.set_all.Given as goal
 
 abbrev pub invariant-loop-i : goal.invariant-loop-i

@@ -1,6 +1,6 @@
 -- `form::formed` meets its contract: each test that fails decides, in the order of the definition.
 use Rattle.form.proofs.Form.{sizes-test}
-use borrow.Author.Tests.{not-true, not-false, eq-eqb, ne_eqb, lt-ltb, le-ltb}
+use borrow.Author.Tests.{eq-eqb, ne_eqb, lt-ltb, le-ltb}
 use borrow.Author.Rules.{rules}
 use Rattle.laws.proofs.Bools.{failed, held}
 use Rattle.form.proofs.formed.Goals as goal

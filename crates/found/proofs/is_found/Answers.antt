@@ -8,7 +8,7 @@ use Rattle.laws.proofs.Upto.{any-yes}
 use Rattle.laws.specs.Upto.{any_upto}
 use Rattle.list.specs.Records.{key_at, same_bytes, is_listed}
 use Rattle.found.specs.Seen.{bucket}
-use Rattle.found.proofs.Seen.{Down, down-first, down-next}
+use Rattle.found.proofs.Seen.{down-first, down-next}
 use Rattle.found.proofs.is_found.Goals as goal
 
 pub bucket-requires : goal.bucket-requires

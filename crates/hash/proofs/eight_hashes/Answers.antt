@@ -1,7 +1,7 @@
 -- `hash::eight_hashes` meets its contract: what is left of the key ends both fours at their hashes.
-use mathlib.Core.Path.{◌≡◌, refl, sym, ap, ◌∙◌}
-use Prim.Native.Nat.{◌+◌, ◌≤◌, ◌-◌}
-use lib.ListN.{length, drop}
+use mathlib.Core.Path.{refl, sym, ap, ◌∙◌}
+use Prim.Native.Nat.{◌+◌}
+use lib.ListN.{drop}
 use native.Mathlib.Omega.{arith}
 use Rattle.hash.specs.Lanes.{states, absorb_all}
 use Rattle.hash.proofs.Chain.{all_more, all_none, all-hashed}

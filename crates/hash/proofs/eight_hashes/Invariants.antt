@@ -1,10 +1,8 @@
 -- `hash::eight_hashes` meets its contract: what is left of the key ends both fours at their hashes.
-use mathlib.Core.Path.{◌≡◌, refl, sym, ap, ◌∙◌}
-use Prim.Native.Nat.{◌+◌, ◌≤◌, ◌-◌}
+use mathlib.Core.Path.{◌≡◌}
+use Prim.Native.Nat.{◌≤◌, ◌-◌}
 use lib.ListN.{length, drop}
-use native.Mathlib.Omega.{arith}
 use Rattle.hash.specs.Lanes.{states, absorb_all}
-use Rattle.hash.proofs.Chain.{all_more, all_none, all-hashed}
 use Rattle.hash.proofs.eight_hashes.Given as goal
 
 abbrev pub invariant-loop-i : goal.invariant-loop-i

@@ -1,10 +1,8 @@
 -- `hash::fnv_of_four` meets its contract: each chain is to end at the hash of its slice.
-use mathlib.Core.Path.{◌≡◌, ap}
-use Prim.Native.Nat.{◌≤◌, ◌-◌}
-use lib.ListN.{length, drop}
+use mathlib.Core.Path.{ap}
 use native.Mathlib.Omega.{arith}
 use Rattle.laws.proofs.Upto.{same-four, four_same}
-use Rattle.hash.specs.Fnv.{absorb, fnv}
+use Rattle.hash.specs.Fnv.{absorb}
 use Rattle.hash.proofs.Chain.{chain-on, chain-end}
 use Rattle.hash.proofs.fnv_of_four.Goals as goal
 

@@ -1,11 +1,8 @@
 -- `hash::fnv_of_four` meets its contract: each chain is to end at the hash of its slice.
-use mathlib.Core.Path.{◌≡◌, ap}
+use mathlib.Core.Path.{◌≡◌}
 use Prim.Native.Nat.{◌≤◌, ◌-◌}
 use lib.ListN.{length, drop}
-use native.Mathlib.Omega.{arith}
-use Rattle.laws.proofs.Upto.{same-four, four_same}
 use Rattle.hash.specs.Fnv.{absorb, fnv}
-use Rattle.hash.proofs.Chain.{chain-on, chain-end}
 use Rattle.hash.proofs.fnv_of_four.Given as goal
 
 abbrev pub invariant-loop-i : goal.invariant-loop-i

@@ -4,7 +4,6 @@ use native.Mathlib.Omega.{arith}
 use lib.ListN.{get_or, length-set}
 use Rattle.index.specs.Index.{linked}
 use borrow.Author.Rules.{rules}
-use Rattle.index.proofs.link.Lts as lts
 use Rattle.index.proofs.link.Goals as goal
 
 pub offset_bounds-index-bucket : goal.offset_bounds-index-bucket

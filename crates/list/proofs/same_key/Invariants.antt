@@ -1,14 +1,9 @@
-
-use mathlib.Core.Path.{◌≡◌, refl, sym, ap, ◌∙◌}
+use mathlib.Core.Path.{◌≡◌}
 use mathlib.Core.Bool.{true}
 use Prim.Native.Nat.{◌≤◌, ◌-◌}
-use native.Mathlib.Omega.{arith}
-use borrow.Author.Tests.{ne_eqb, eq-eqb}
 use lib.Dec.{eqb}
 use lib.ListN.{length, get_or}
 use Rattle.laws.specs.Upto.{all_upto}
-use Rattle.laws.proofs.Upto.{all-no, all_more}
-use Rattle.list.specs.Records.{same_bytes}
 use Rattle.list.proofs.same_key.Given as goal
 
 abbrev pub invariant-loop-j : goal.invariant-loop-j

@@ -1,12 +1,7 @@
-
 use mathlib.Core.Path.{◌≡◌}
 use Prim.Native.Nat.{◌+◌, ◌-◌, ◌*◌, ◌≤◌}
-use native.Mathlib.Omega.{arith}
-use lib.ListN.{length, get_or, drop}
-use lib.ListN.{drop_of_length-le}
-use lib.Count.{trailing_le}
+use lib.ListN.{length, drop}
 use Rattle.marks.specs.Marks.{first_mark}
-use Rattle.marks.proofs.Laws.{first-none, first_some}
 use Rattle.marks.proofs.first_mark.Given as goal
 
 abbrev pub invariant-loop-i : goal.invariant-loop-i

@@ -1,14 +1,10 @@
 -- `sealing::put_blocks` meets its contract: the loop holds the blocks so far, and behind them what stood there.
-use Prim.Native.Nat.{◌+◌, ◌≤◌, ◌-◌, ◌*◌}
-use lib.ListN.{length-take, length, drop}
-use Rattle.laws.proofs.Lists.{length_part}
-use mathlib.Core.Path.{ap, ◌≡◌, refl, ◌∙◌}
-use Rattle.sealing.proofs.Stores.{blocks-turn, length-turn, blocks-all}
+use Prim.Native.Nat.{◌≤◌, ◌-◌, ◌*◌}
+use lib.ListN.{length, drop}
+use mathlib.Core.Path.{◌≡◌}
 use mathlib.Core.List.{◌++◌}
-use native.Mathlib.Omega.{arith}
 use Rattle.laws.specs.Upto.{join_upto}
 use Rattle.block.specs.Block.{block_of}
-use Rattle.laws.proofs.Rows.{row_within}
 use Rattle.sealing.proofs.put_blocks.Given as goal
 
 abbrev pub invariant-loop-n : goal.invariant-loop-n

@@ -1,7 +1,4 @@
-
-use Rattle.std.proofs.Common.{◌≡◌, ◌-◌, ◌≤◌, false, eqb, get_or, sym, refl, ap, ◌∙◌, arith, eq-eqb, ne_eqb}
-use Rattle.laws.specs.Upto.{any_upto}
-use Rattle.laws.proofs.Upto.{any-yes, any-more}
+use Rattle.std.proofs.Common.{◌≡◌, ◌-◌, ◌≤◌, false}
 use Rattle.table.specs.Table.{any_empty}
 use Rattle.table.proofs.any_empty.Given as goal
 

@@ -1,6 +1,6 @@
-use Rattle.std.proofs.Common.{◌≡◌, ◌-◌, ◌≤◌, get_or, refl, ap, ◌∙◌, arith}
+use Rattle.std.proofs.Common.{◌≡◌, get_or, refl, ap, ◌∙◌, arith}
 use Rattle.laws.specs.Upto.{each_upto}
-use Rattle.table.specs.Table.{tab, Fit, taken_out}
+use Rattle.table.specs.Table.{tab, taken_out}
 use Rattle.table.proofs.Table.{taken_upto, place-part, taken-turn, fit_next}
 use Rattle.table.proofs.take_out.Goals as goal
 

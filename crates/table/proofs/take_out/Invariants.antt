@@ -1,8 +1,6 @@
-
-use Rattle.std.proofs.Common.{◌≡◌, ◌-◌, ◌≤◌, get_or, refl, ap, ◌∙◌, arith}
-use Rattle.laws.specs.Upto.{each_upto}
-use Rattle.table.specs.Table.{tab, Fit, taken_out}
-use Rattle.table.proofs.Table.{taken_upto, place-part, taken-turn, fit_next}
+use Rattle.std.proofs.Common.{◌≡◌, ◌-◌, ◌≤◌}
+use Rattle.table.specs.Table.{tab, Fit}
+use Rattle.table.proofs.Table.{taken_upto}
 use Rattle.table.proofs.take_out.Given as goal
 
 abbrev pub invariant-loop-i : goal.invariant-loop-i

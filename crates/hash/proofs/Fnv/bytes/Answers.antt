@@ -1,10 +1,7 @@
 -- `hash::Fnv::bytes` meets its contract.
-use mathlib.Core.Path.{◌≡◌, refl}
-use Prim.Native.Nat.{◌≤◌, ◌-◌}
+use mathlib.Core.Path.{refl}
 use native.Mathlib.Omega.{arith}
 use borrow.Author.Rules.{rules}
-use lib.ListN.{length, drop}
-use Rattle.hash.specs.Fnv.{absorb}
 use Rattle.hash.proofs.Chain.{absorb-more, absorb-none}
 use Rattle.hash.proofs.Fnv.bytes.Goals as goal
 

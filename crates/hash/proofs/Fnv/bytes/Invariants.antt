@@ -1,11 +1,8 @@
 -- `hash::Fnv::bytes` meets its contract.
-use mathlib.Core.Path.{◌≡◌, refl}
+use mathlib.Core.Path.{◌≡◌}
 use Prim.Native.Nat.{◌≤◌, ◌-◌}
-use native.Mathlib.Omega.{arith}
-use borrow.Author.Rules.{rules}
 use lib.ListN.{length, drop}
 use Rattle.hash.specs.Fnv.{absorb}
-use Rattle.hash.proofs.Chain.{absorb-more, absorb-none}
 use Rattle.hash.proofs.Fnv.bytes.Given as goal
 
 abbrev pub invariant-loop-i : goal.invariant-loop-i

@@ -1,10 +1,8 @@
 -- `hash::Lanes::bytes` meets its contract.
-use mathlib.Core.Path.{◌≡◌, refl}
-use Prim.Native.Nat.{◌≤◌, ◌-◌}
+use mathlib.Core.Path.{refl}
 use native.Mathlib.Omega.{arith}
 use borrow.Author.Rules.{rules}
-use lib.ListN.{length, drop}
-use Rattle.hash.specs.Lanes.{states, absorb_all}
+use Rattle.hash.specs.Lanes.{states}
 use Rattle.hash.proofs.Chain.{all_more, all_none}
 use Rattle.hash.proofs.Lanes.bytes.Goals as goal
 

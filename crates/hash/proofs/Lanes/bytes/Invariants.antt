@@ -1,11 +1,8 @@
 -- `hash::Lanes::bytes` meets its contract.
-use mathlib.Core.Path.{◌≡◌, refl}
+use mathlib.Core.Path.{◌≡◌}
 use Prim.Native.Nat.{◌≤◌, ◌-◌}
-use native.Mathlib.Omega.{arith}
-use borrow.Author.Rules.{rules}
 use lib.ListN.{length, drop}
 use Rattle.hash.specs.Lanes.{states, absorb_all}
-use Rattle.hash.proofs.Chain.{all_more, all_none}
 use Rattle.hash.proofs.Lanes.bytes.Given as goal
 
 abbrev pub invariant-loop-i : goal.invariant-loop-i
