@@ -1,12 +1,9 @@
 -- The lines of a session as it stands: one law for each way that the call goes.
 use mathlib.Core.Path.{◌≡◌, refl, sym, ap, ◌∙◌}
 use mathlib.Core.Bool.{true, false}
-use mathlib.Core.List.{List, [], ◌∷◌}
-use mathlib.Core.Logic.{⊎_elim}
+use mathlib.Core.List.{List}
 use Prim.Native.Nat.{ℕ}
 use native.Mathlib.Omega.{arith}
-use types.Run.{OneOf}
-use denote.Enum.Declared.{tag_of}
 use borrow.Author.Tests.{eq-eqb, ne_eqb}
 use lib.ListN.{length}
 use lib.Seq.{sets}
@@ -17,7 +14,6 @@ use Rattle.summary.specs.declared.Report.{Report}
 use Rattle.session.specs.declared.Reported.{Reported}
 use Rattle.session.specs.declared.Reported.TheVariants as reported
 use Rattle.session.specs.Calls.{report_on, report_number}
-use Rattle.session.specs.contracts.Reported as declared
 use Rattle.lines.specs.Text.{Put}
 use Rattle.printing.specs.Print.{most_written, room_lines}
 use Rattle.printing.proofs.Settled.{Listed, told-listed}

@@ -41,7 +41,7 @@ use Rattle.counting.specs.Count.{counts_upto, counts_of}
 use Rattle.settling.specs.Settle as settling
 use Rattle.settling.specs.Settle.{after_counts, then_counts}
 use Rattle.room.specs.declared.Session.{Session}
-use Rattle.room.specs.Memory.{Memory, memory}
+use Rattle.room.specs.Memory.{Memory}
 use Rattle.room.proofs.Laws.{rooms-asked}
 use Rattle.opening.specs.Open.{xors_in, flows_in, packets_in, marks_of, opened_memory}
 use Rattle.opening.proofs.Answers.{opened-rooms, opened-session}

@@ -1,18 +1,14 @@
 -- Opening's answer and the lines: an image that is read is opened in room of its size, and any other is refused with its number.
 use mathlib.Core.Path.{◌≡◌, refl, sym, ap, ap₂, ◌∙◌}
-use mathlib.Core.List.{List, [], ◌∷◌}
-use mathlib.Core.Logic.{⊎_elim}
+use mathlib.Core.List.{List}
 use Prim.Native.Nat.{ℕ, ◌<◌}
 use native.Mathlib.Omega.{arith}
-use types.Run.{OneOf}
-use denote.Enum.Declared.{tag_of}
 use Rattle.layout.specs.declared.Sizes.{Sizes}
 use Rattle.layout.specs.Sizes.{Ranged, ipv4_layout}
 use Rattle.layout.proofs.Ranges.{lays-ipv4}
 use Rattle.reading.specs.declared.Reading.{Reading}
 use Rattle.reading.specs.declared.Reading.TheVariants as read
 use Rattle.reading.specs.Read.{read_of, read_number}
-use Rattle.reading.specs.contracts.Reading as reading
 use Rattle.reading.proofs.Accepts.{accepted}
 use Rattle.room.specs.declared.Session.{Session}
 use Rattle.room.specs.Memory.{Memory, Rooms}
@@ -20,7 +16,6 @@ use Rattle.room.proofs.Laws.{rooms-asked}
 use Rattle.opening.specs.declared.Opened.{Opened}
 use Rattle.opening.specs.declared.Opened.TheVariants.{Open}
 use Rattle.opening.specs.Open.{Opening, opening, open_read, open_of, open_number}
-use Rattle.opening.specs.contracts.Opened as declared
 use Rattle.opening.proofs.Answers.{open_done, open-read}
 use Rattle.lines.specs.Text.{refused_line}
 use Rattle.printing.specs.Print.{session_lines, read_lines, image_lines, least_sizes, sizes_read}

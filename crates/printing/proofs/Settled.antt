@@ -1,11 +1,8 @@
 -- Settling's answer and the lines: how many flows can be listed, and which lines each answer prints.
 use mathlib.Core.Path.{◌≡◌, refl, sym, ap, ◌∙◌}
-use mathlib.Core.List.{List, [], ◌∷◌}
-use mathlib.Core.Logic.{⊎_elim, inl, inr}
+use mathlib.Core.List.{List}
 use Prim.Native.Nat.{ℕ, ◌*◌, ◌<◌, ◌≤◌}
 use native.Mathlib.Omega.{arith}
-use types.Run.{OneOf}
-use denote.Enum.Declared.{tag_of}
 use lib.ListN.{length}
 use Rattle.layout.specs.declared.Layout.{Layout}
 use Rattle.layout.specs.declared.Sizes.{Sizes}
@@ -32,7 +29,6 @@ use Rattle.session.specs.Calls.{Settling, settling_to, settle_answer, settle_lea
 use Rattle.summary.specs.declared.Report.{Report}
 use Rattle.session.proofs.Answers.{Passes, rooms, listed-high, passes-steady}
 use Rattle.session.proofs.Laws.{settle-passes, else-passes, told-passes}
-use Rattle.session.specs.contracts.Settled as declared
 use Rattle.lines.specs.Text.{refused_line}
 use Rattle.printing.specs.Print.{room_lines, settled_lines, session_lines}
 

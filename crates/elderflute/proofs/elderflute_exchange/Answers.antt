@@ -2,7 +2,6 @@ use Rattle.list.specs.Records.{records}
 use Rattle.table.specs.Table.{tab}
 use Rattle.room.specs.Memory.{memory}
 use Rattle.elderflute.proofs.Answers.{exchange-call}
-use borrow.Author.Rules.{rules}
 use Rattle.elderflute.proofs.elderflute_exchange.Goals as goal
 
 pub session_of-s-requires : goal.session_of-s-requires

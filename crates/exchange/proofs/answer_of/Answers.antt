@@ -1,16 +1,6 @@
 use mathlib.Core.Path.{sym, ap}
 use Rattle.exchange.specs.Exchange.{answer_of}
-use borrow.Author.Rules.{rules}
 use Rattle.exchange.proofs.answer_of.Goals as goal
-
-pub enum_told-1 : goal.enum_told-1
-enum_told-1 c = search rules
-
-pub enum_known-ending : goal.enum_known-ending
-enum_known-ending c = search rules
-
-pub enum_known-ending-in-DamagedB-1 : goal.enum_known-ending-in-DamagedB-1
-enum_known-ending-in-DamagedB-1 c = search rules
 
 pub returns-in-Settled : goal.returns-in-Settled
 returns-in-Settled c = let r = c.args.r in ap (λ x. answer_of x r.a r.b r.twelves) (sym c.in-Settled.is)

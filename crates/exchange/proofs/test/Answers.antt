@@ -68,9 +68,6 @@ is_session_part-requires c =
     let four = need-a a.l a.s a.t m s.requires.0 (held c.in_range.ensures c.if-not-in_range.false) (held c.in_range-2.ensures c.if-not-in_range-2.false) c.origin-o.ensures c.place_after-p.ensures c.place_after-e.ensures (held c.areas_fit.ensures c.if-not-areas_fit.false) a.seen.now s.requires.1 in
     (four.0, four.1, four.2, four.3, s.requires.2)
 
-pub shape_of-seen-then-not-is_session_part : goal.shape_of-seen-then-not-is_session_part
-shape_of-seen-then-not-is_session_part c = c.is_session_part.auto.seen
-
 pub returns-then-not-is_session_part : goal.returns-then-not-is_session_part
 returns-then-not-is_session_part c =
     let s = c in
@@ -86,10 +83,6 @@ is_session_part-requires-2 c =
     let four = need-b a.l a.s a.t m s.requires.0 (held c.in_range.ensures c.if-not-in_range.false) (held c.in_range-2.ensures c.if-not-in_range-2.false) c.origin-o.ensures c.place_after-p.ensures c.place_after-e.ensures (held c.areas_fit.ensures c.if-not-areas_fit.false) a.seen.now s.requires.1 c.is_session_part.ensures.0 (held refl c.if-not-is_session_part.false) c.is_session_part.ensures.1 in
     (four.0, four.1, four.2, four.3, s.requires.3)
 
-pub shape_of-seen-then-not-is_session_part-2 : goal.shape_of-seen-then-not-is_session_part-2
-shape_of-seen-then-not-is_session_part-2 c =
-    c.is_session_part-2.auto.seen ∙ c.is_session_part.auto.seen
-
 pub returns-then-not-is_session_part-2 : goal.returns-then-not-is_session_part-2
 returns-then-not-is_session_part-2 c =
     let s = c in
@@ -97,20 +90,12 @@ returns-then-not-is_session_part-2 c =
     let m = (memory a.filter.now (tab a.xors.now a.flows.now a.unknowns.now a.positions.now a.marks.now) a.packets.now (records a.keys.now a.counts.now a.flags.now)) in
     (not-b a.l a.s a.t m s.requires.0 (held c.in_range.ensures c.if-not-in_range.false) (held c.in_range-2.ensures c.if-not-in_range-2.false) c.origin-o.ensures c.place_after-p.ensures c.place_after-e.ensures (held c.areas_fit.ensures c.if-not-areas_fit.false) a.seen.now s.requires.1 c.is_session_part.ensures.0 (held refl c.if-not-is_session_part.false) c.is_session_part.ensures.1 c.is_session_part-2.ensures.0 (failed refl c.if-not-is_session_part-2.true), not-passed {r = tested.NotSession} refl)
 
-pub shape_of-seen-then-s-t : goal.shape_of-seen-then-s-t
-shape_of-seen-then-s-t c =
-    c.is_session_part-2.auto.seen ∙ c.is_session_part.auto.seen
-
 pub returns-then-s-t : goal.returns-then-s-t
 returns-then-s-t c =
     let s = c in
     let a = s.args in
     let m = (memory a.filter.now (tab a.xors.now a.flows.now a.unknowns.now a.positions.now a.marks.now) a.packets.now (records a.keys.now a.counts.now a.flags.now)) in
     (other-slot a.l a.s a.t m s.requires.0 (held c.in_range.ensures c.if-not-in_range.false) (held c.in_range-2.ensures c.if-not-in_range-2.false) c.origin-o.ensures c.place_after-p.ensures c.place_after-e.ensures (held c.areas_fit.ensures c.if-not-areas_fit.false) a.seen.now s.requires.1 c.is_session_part.ensures.0 (held refl c.if-not-is_session_part.false) c.is_session_part.ensures.1 c.is_session_part-2.ensures.0 (held refl c.if-not-is_session_part-2.false) (ne_eqb a.s.slot a.t.slot c.if-s-t.true), not-passed {r = tested.OtherSlot} refl)
-
-pub shape_of-seen : goal.shape_of-seen
-shape_of-seen c =
-    c.is_session_part-2.auto.seen ∙ c.is_session_part.auto.seen
 
 pub returns : goal.returns
 returns c =

@@ -1,16 +1,13 @@
 -- `printing::print_parts` meets its contract: each part has the length that the sizes ask for.
-use mathlib.Core.Path.{◌≡◌, sym, subst}
-use Prim.Native.Nat.{ℕ, ◌+◌, ◌*◌, ◌/◌, ◌≤◌}
+use mathlib.Core.Path.{sym, subst}
+use Prim.Native.Nat.{◌+◌, ◌*◌, ◌/◌}
 use native.Mathlib.Omega.{arith}
 use lib.Seq.{length-take-le}
-use Rattle.layout.specs.declared.Layout.{Layout}
-use Rattle.layout.specs.Sizes.{Lays, ipv4_layout, table_cells}
+use Rattle.layout.specs.Sizes.{Lays}
 use Rattle.layout.proofs.Ranges.{lays-ipv4}
-use Rattle.reading.specs.Read.{read_of}
 use Rattle.list.specs.Records.{records}
 use Rattle.table.specs.Table.{tab}
 use Rattle.room.specs.Memory.{memory}
-use Rattle.printing.specs.Print.{sizes_read}
 use Rattle.printing.proofs.Parts.{ranged-read, bytes_high, cells-high, parts-fit}
 use borrow.Author.Rules.{rules}
 use Rattle.printing.proofs.print_parts.Goals as goal

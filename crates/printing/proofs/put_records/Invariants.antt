@@ -1,11 +1,7 @@
 -- `printing::put_records` meets its contract: a line a turn.
-use mathlib.Core.Path.{◌≡◌}
 use Prim.Native.Nat.{◌-◌, ◌≤◌}
-use native.Mathlib.Omega.{arith}
 use Rattle.list.specs.Records.{records}
-use Rattle.lines.proofs.Lines.{put-length}
-use Rattle.printing.proofs.Records.{Written, written_none, written-more}
-use borrow.Author.Rules.{rules}
+use Rattle.printing.proofs.Records.{Written}
 use Rattle.printing.proofs.put_records.Given as goal
 
 abbrev pub invariant-loop-i : goal.invariant-loop-i

@@ -93,46 +93,6 @@ settle_both-requires c =
     (c.give-to_a.ensures ∙ ap₂ (λ o m. give_part a.l (switch_of a.s) o a.p a.a a.p.keys m f (tab c.give-to_b.new.xors c.give-to_b.new.flows c.give-to_b.new.unknowns c.give-to_b.new.positions c.give-to_b.new.marks) (records c.give-to_b.new.keys c.give-to_b.new.counts c.give-to_b.new.flags) c.give-to_b.new.seen) c.origin.ensures one.0) in
     (lies_at h two.2 two.0 one.0, start.requires.3, start.requires.4)
 
-pub shape_of-xors : goal.shape_of-xors
-shape_of-xors c =
-    c.settle_both.auto.xors ∙ c.give-to_a.auto.xors ∙ c.give-to_b.auto.xors
-
-pub shape_of-flows : goal.shape_of-flows
-shape_of-flows c =
-    c.settle_both.auto.flows ∙ c.give-to_a.auto.flows ∙ c.give-to_b.auto.flows
-
-pub shape_of-packets : goal.shape_of-packets
-shape_of-packets c =
-    c.settle_both.auto.packets
-
-pub shape_of-unknowns : goal.shape_of-unknowns
-shape_of-unknowns c =
-    c.settle_both.auto.unknowns ∙ c.give-to_a.auto.unknowns ∙ c.give-to_b.auto.unknowns
-
-pub shape_of-positions : goal.shape_of-positions
-shape_of-positions c =
-    c.settle_both.auto.positions ∙ c.give-to_a.auto.positions ∙ c.give-to_b.auto.positions
-
-pub shape_of-marks : goal.shape_of-marks
-shape_of-marks c =
-    c.settle_both.auto.marks ∙ c.give-to_a.auto.marks ∙ c.give-to_b.auto.marks
-
-pub shape_of-keys : goal.shape_of-keys
-shape_of-keys c =
-    c.settle_both.auto.keys ∙ c.give-to_a.auto.keys ∙ c.give-to_b.auto.keys
-
-pub shape_of-counts : goal.shape_of-counts
-shape_of-counts c =
-    c.settle_both.auto.counts ∙ c.give-to_a.auto.counts ∙ c.give-to_b.auto.counts
-
-pub shape_of-flags : goal.shape_of-flags
-shape_of-flags c =
-    c.settle_both.auto.flags ∙ c.give-to_a.auto.flags ∙ c.give-to_b.auto.flags
-
-pub shape_of-seen : goal.shape_of-seen
-shape_of-seen c =
-    c.settle_both.auto.seen ∙ c.give-to_a.auto.seen ∙ c.give-to_b.auto.seen
-
 pub returns : goal.returns
 returns c =
     let start = c in

@@ -23,54 +23,8 @@ settle_part-x-requires c =
     (sym c.origin.ensures) (inside-a s.requires.0, packets-a s.requires.0, s.requires.0.stands-a) in
     (three.0, three.1, three.2, s.requires.1)
 
-pub enum_known-x : goal.enum_known-x
-enum_known-x c = search rules
-
-pub enum_told-1 : goal.enum_told-1
-enum_told-1 c = search rules
-
 pub after_a-requires : goal.after_a-requires
 after_a-requires c = search rules
-
-pub shape_of-xors-in_default : goal.shape_of-xors-in_default
-shape_of-xors-in_default c =
-    c.settle_part-x.auto.xors
-
-pub shape_of-flows-in_default : goal.shape_of-flows-in_default
-shape_of-flows-in_default c =
-    c.settle_part-x.auto.flows
-
-pub shape_of-packets-in_default : goal.shape_of-packets-in_default
-shape_of-packets-in_default c =
-    c.settle_part-x.auto.packets
-
-pub shape_of-unknowns-in_default : goal.shape_of-unknowns-in_default
-shape_of-unknowns-in_default c =
-    c.settle_part-x.auto.unknowns
-
-pub shape_of-positions-in_default : goal.shape_of-positions-in_default
-shape_of-positions-in_default c =
-    c.settle_part-x.auto.positions
-
-pub shape_of-marks-in_default : goal.shape_of-marks-in_default
-shape_of-marks-in_default c =
-    c.settle_part-x.auto.marks
-
-pub shape_of-keys-in_default : goal.shape_of-keys-in_default
-shape_of-keys-in_default c =
-    c.settle_part-x.auto.keys
-
-pub shape_of-counts-in_default : goal.shape_of-counts-in_default
-shape_of-counts-in_default c =
-    c.settle_part-x.auto.counts
-
-pub shape_of-flags-in_default : goal.shape_of-flags-in_default
-shape_of-flags-in_default c =
-    c.settle_part-x.auto.flags
-
-pub shape_of-seen-in_default : goal.shape_of-seen-in_default
-shape_of-seen-in_default c =
-    c.settle_part-x.auto.seen
 
 pub returns-in_default : goal.returns-in_default
 returns-in_default c =
@@ -93,46 +47,6 @@ settle_part-y-requires c =
 
 pub after_b-requires : goal.after_b-requires
 after_b-requires c = search rules
-
-pub shape_of-xors : goal.shape_of-xors
-shape_of-xors c =
-    c.settle_part-y.auto.xors ∙ c.settle_part-x.auto.xors
-
-pub shape_of-flows : goal.shape_of-flows
-shape_of-flows c =
-    c.settle_part-y.auto.flows ∙ c.settle_part-x.auto.flows
-
-pub shape_of-packets : goal.shape_of-packets
-shape_of-packets c =
-    c.settle_part-y.auto.packets ∙ c.settle_part-x.auto.packets
-
-pub shape_of-unknowns : goal.shape_of-unknowns
-shape_of-unknowns c =
-    c.settle_part-y.auto.unknowns ∙ c.settle_part-x.auto.unknowns
-
-pub shape_of-positions : goal.shape_of-positions
-shape_of-positions c =
-    c.settle_part-y.auto.positions ∙ c.settle_part-x.auto.positions
-
-pub shape_of-marks : goal.shape_of-marks
-shape_of-marks c =
-    c.settle_part-y.auto.marks ∙ c.settle_part-x.auto.marks
-
-pub shape_of-keys : goal.shape_of-keys
-shape_of-keys c =
-    c.settle_part-y.auto.keys ∙ c.settle_part-x.auto.keys
-
-pub shape_of-counts : goal.shape_of-counts
-shape_of-counts c =
-    c.settle_part-y.auto.counts ∙ c.settle_part-x.auto.counts
-
-pub shape_of-flags : goal.shape_of-flags
-shape_of-flags c =
-    c.settle_part-y.auto.flags ∙ c.settle_part-x.auto.flags
-
-pub shape_of-seen : goal.shape_of-seen
-shape_of-seen c =
-    c.settle_part-y.auto.seen ∙ c.settle_part-x.auto.seen
 
 pub returns : goal.returns
 returns c =
