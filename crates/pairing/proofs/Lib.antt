@@ -1,5 +1,3 @@
 -- The laws behind the crate's contracts.
 pub mod Misfit
 pub mod Outcomes
-pub mod Enums
-pub mod ViewExchangeFirst
