@@ -20,7 +20,7 @@ use Rattle.joint.proofs.Joint as theorems
 use Rattle.records.proofs.Trip.{Sound, apart-sound}
 use Rattle.calls.specs.Calls.{as_numbers, as_records, over_records}
 use Rattle.follows.specs.Calls.{Held, as_live}
-use Rattle.follows.specs.Exchanges.{joined, exchange_on, left_on, pair_after}
+use Rattle.follows.specs.Exchanges.{exchange_on, left_on, pair_after}
 use Rattle.follows.proofs.Kept.{Keep, back}
 use Rattle.follows.proofs.Sides.{exchange-kept}
 use Rattle.follows.proofs.Joined.{numbers-joined, sound-joined}
