@@ -28,6 +28,10 @@ fn read_full(input: &mut impl Read, buffer: &mut [u8]) -> io::Result<usize>
     Ok(done)
 }
 
+fn complain(said: &mut impl Write, text: &[u8]) -> io::Result<()> {
+    said.write_all(text)
+}
+
 // A byte as a size, and as a part of a number.
 fn wide(b: u8) -> usize
     ensures { result ≤ 255 }
@@ -57,11 +61,11 @@ fn is_taken(said: &mut impl Write, t: Taken) -> io::Result<bool> {
     match t {
         Taken::Done => Ok(true),
         Taken::NoKey => {
-            said.write_all(b"encode: a packet has no key (6)\n")?;
+            complain(said, b"encode: a packet has no key (6)\n")?;
             Ok(false)
         }
         Taken::Full => {
-            said.write_all(b"encode: a counter is full (7)\n")?;
+            complain(said, b"encode: a counter is full (7)\n")?;
             Ok(false)
         }
         Taken::BadSizes => Ok(false),
@@ -102,7 +106,7 @@ fn take_all(
     while at < input.len() {
         let next = record_end(input, at);
         if next < at + 6 {
-            return said.write_all(b"encode: the last packet is cut short\n");
+            return complain(said, b"encode: the last packet is cut short\n");
         }
         let from = at + 6;
         take_often(
@@ -132,9 +136,9 @@ fn write_image(
 ) -> io::Result<()> {
     match sealing::seal(z, salt, slot, filter, cells, image) {
         Sealed::Done => out.write_all(image),
-        Sealed::BadSizes => said.write_all(b"encode: sizes out of range (3)\n"),
-        Sealed::BadRoom => said.write_all(b"encode: room (16)\n"),
-        Sealed::BadZero => said.write_all(b"encode: a zero byte (3)\n"),
+        Sealed::BadSizes => complain(said, b"encode: sizes out of range (3)\n"),
+        Sealed::BadRoom => complain(said, b"encode: room (16)\n"),
+        Sealed::BadZero => complain(said, b"encode: a zero byte (3)\n"),
     }
 }
 
@@ -160,11 +164,11 @@ fn is_started(said: &mut impl Write, s: Started) -> io::Result<bool> {
     match s {
         Started::Done => Ok(true),
         Started::BadSizes => {
-            said.write_all(b"encode: sizes out of range (3)\n")?;
+            complain(said, b"encode: sizes out of range (3)\n")?;
             Ok(false)
         }
         Started::BadRoom => {
-            said.write_all(b"encode: room (16)\n")?;
+            complain(said, b"encode: room (16)\n")?;
             Ok(false)
         }
     }
@@ -229,7 +233,7 @@ fn lend_filter(
 // Makes the image of an input: what is said of it goes to `said`.
 fn encode(out: &mut impl Write, said: &mut impl Write, input: &[u8]) -> io::Result<()> {
     if input.len() < 12 {
-        return said.write_all(b"encode: want sizes, salt and slot\n");
+        return complain(said, b"encode: want sizes, salt and slot\n");
     }
     let z = Sizes {
         kf: wide(input[0]),
@@ -238,13 +242,21 @@ fn encode(out: &mut impl Write, said: &mut impl Write, input: &[u8]) -> io::Resu
         q: wide(input[3]),
     };
     if !layout::in_range(z) {
-        return said.write_all(b"encode: sizes out of range (3)\n");
+        return complain(said, b"encode: sizes out of range (3)\n");
     }
     let image = layout::block_count(z) * 512;
     let cells = layout::cell_bytes(layout::ipv4(), z);
     let mut room = [0u8; ROOM];
-    let filter = layout::filter_bytes(z);
-    lend_filter(out, said, input, z, image, cells, &mut room, filter)
+    lend_filter(
+        out,
+        said,
+        input,
+        z,
+        image,
+        cells,
+        &mut room,
+        layout::filter_bytes(z),
+    )
 }
 
 fn main(rt: HostRuntime) -> io::Result<()> {

@@ -14,5 +14,5 @@ overflow_mul-image g c =
 pub cell_bytes-cells-requires : goal.cell_bytes-cells-requires
 cell_bytes-cells-requires g c = (rw c.ipv4.ensures lays-ipv4, ranged _ (held c.in_range.ensures c.if-not-in_range.false))
 
-pub filter_bytes-filter-requires : goal.filter_bytes-filter-requires
-filter_bytes-filter-requires g c = ranged _ (held c.in_range.ensures c.if-not-in_range.false)
+pub filter_bytes-requires : goal.filter_bytes-requires
+filter_bytes-requires g c = ranged _ (held c.in_range.ensures c.if-not-in_range.false)
