@@ -1,6 +1,9 @@
 #!/usr/bin/env python3
-"""Turns proofs/F/Proof.antt of the older Rattle (tie.close) into Invariants.antt and Answers.antt, by names.json of `rt check --generated DIR --old-names`.
-usage: conv.py CRATEDIR NAMES.json [F..]
+"""Turns proofs/F/Proof.antt of the older Rattle (tie.close) into Invariants.antt and Answers.antt: most then check, the rest is mended by hand.
+
+usage: cd crates/NAME && rt check --generated NAMES --old-names --allow-holes; wip/convert_proofs.py . NAMES/names.json [F..]
+
+For the proofs in j.patch and room.patch, once port.py and tools/respell.py have run over them. It goes by text, and prints what it could not place.
 """
 import json,os,re,sys,subprocess
 crate,names=sys.argv[1],sys.argv[2]
@@ -240,8 +243,6 @@ def convert(path,of):
         out+=lines+['']
     text='\n'.join(out).rstrip()+'\n'
     text=text.replace('@PLACES@\n',f"use Rattle.{name}.proofs.{path}.Goals.{{{', '.join(sorted(PLACES))}}}\n" if PLACES else '')
-    os.makedirs('/tmp/oldproofs/'+name,exist_ok=True)
-    open(f'/tmp/oldproofs/{name}/{path}.antt','w').write(t)
     if inv:
         iv=[head[0] if head else '']+uses+[f"use Rattle.{name}.proofs.{path}.Given as goal",'']
         loops=of.get('loops',[])

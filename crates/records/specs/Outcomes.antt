@@ -1,5 +1,4 @@
--- What it means that the contract of a function that is proved by hand determines the outcome of a call. Of functions that the borrow checker
--- covers, laws' `Determined` says it.
+-- What it means that the contract of a call over records determines its outcome. Of functions whose lent values are numbers, laws' `Determined` says it.
 use Rattle.std.specs.Prelude.{◌≡◌}
 use seplogic.Ra.Ura.{Ura}
 use base.Logic.{SProp}
