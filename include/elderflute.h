@@ -1,5 +1,5 @@
 /*
- * Elderflute: a collector for FlowRadar flowsets. This header declares every call of libelderflute.a, which `rt staticlib elderflute` builds for
+ * Elderflute: a collector for FlowRadar flowsets. This header declares every call of libelderflute.a, which `tests/archive` builds for
  * x86-64 Linux. docs/MANUAL.md says what each call is for; document 01 (docs/SPECIFICATION.md) decides.
  *
  * Every call answers a number of enum elderflute_number, ELDERFLUTE_DONE where it did what is said. It allocates nothing, keeps nothing between
