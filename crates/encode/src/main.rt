@@ -2,31 +2,16 @@
 // packets, each after how often it is taken (4 bytes) and its length (2). Standard output: the image, or nothing and a line on standard error.
 #![tactic(auto)]
 
-ghost use Rattle.std.specs.Prelude.{◌≤◌, length, IfOk};
+ghost use Rattle.std.specs.Prelude.{◌≤◌, length};
 
 use encoder::{Started, Taken};
 use layout::Sizes;
 use sealing::Sealed;
 use std::io;
-use std::io::{Read, Write};
+use std::io::Write;
 
 // As much of standard input as is read, and room for a filter, for cells and for an image.
 const ROOM: usize = 65536;
-
-// Reads until the buffer is full or the input ends, and gives how many bytes stand at the buffer's start.
-fn read_full(input: &mut impl Read, buffer: &mut [u8]) -> io::Result<usize>
-    ensures { IfOk result (λ n. n ≤ length buffer.new) }
-{
-    let mut done = 0;
-    while done < buffer.len() {
-        let n = input.read(&mut buffer[done..])?;
-        if n == 0 {
-            break;
-        }
-        done += n;
-    }
-    Ok(done)
-}
 
 fn complain(said: &mut impl Write, text: &[u8]) -> io::Result<()> {
     said.write_all(text)
@@ -261,6 +246,6 @@ fn encode(out: &mut impl Write, said: &mut impl Write, input: &[u8]) -> io::Resu
 
 fn main(rt: HostRuntime) -> io::Result<()> {
     let mut input = [0u8; ROOM];
-    let n = read_full(&mut rt.stdin(), &mut input)?;
+    let n = source::read_full(&mut rt.stdin(), &mut input)?;
     encode(&mut rt.stdout(), &mut rt.stderr(), &input[..n])
 }

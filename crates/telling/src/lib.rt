@@ -1,11 +1,11 @@
 // What a test program needs: writing a line piece by piece, and filling buffers from a generator. It rests on laws and std's io.
 #![tactic(auto)]
 
-ghost use Rattle.std.specs.Prelude.{◌≡◌, ◌≤◌, min, length, IfOk};
+ghost use Rattle.std.specs.Prelude.{◌≡◌, min, length};
 ghost use Rattle.telling.specs.Generator.{next_number, after_numbers, random_bytes};
 
 use std::io;
-use std::io::{Read, Write};
+use std::io::Write;
 
 // ---- writing
 
@@ -76,23 +76,6 @@ pub fn say_buffer(out: &mut impl Write, bytes: &[u8]) -> io::Result<()> {
         return say(out, b".");
     }
     say_hex(out, bytes)
-}
-
-// ---- reading
-
-// Reads until the buffer is full or the input ends, and gives how many bytes stand at the buffer's start.
-pub fn read_full(input: &mut impl Read, buffer: &mut [u8]) -> io::Result<usize>
-    ensures { IfOk result (λ n. n ≤ length buffer.new) }
-{
-    let mut done = 0;
-    while done < buffer.len() {
-        let n = input.read(&mut buffer[done..])?;
-        if n == 0 {
-            break;
-        }
-        done += n;
-    }
-    Ok(done)
 }
 
 // ---- filling

@@ -413,7 +413,7 @@ fn serve_payload(
     op: u8,
     room: &mut [u8],
 ) -> io::Result<bool> {
-    if telling::read_full(input, room)? < room.len() {
+    if source::read_full(input, room)? < room.len() {
         return Ok(false);
     }
     answer(out, op, room)?;
@@ -436,7 +436,7 @@ fn serve_within(
 // One request; whether there was a whole one.
 fn serve(input: &mut impl Read, out: &mut impl Write) -> io::Result<bool> {
     let mut head = [0u8; 4];
-    if telling::read_full(input, &mut head)? < 4 {
+    if source::read_full(input, &mut head)? < 4 {
         return Ok(false);
     }
     let n = wide(head[1]) * 65536 + wide(head[2]) * 256 + wide(head[3]);

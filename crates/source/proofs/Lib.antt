@@ -1,0 +1,2 @@
+-- What one read adds to what was read before.
+mod Turn
