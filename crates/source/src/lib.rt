@@ -7,8 +7,8 @@ ghost use Rattle.std.specs.Io.KnownBytes.{Consumes, IsAtEnd};
 use std::io;
 use std::io::Read;
 
-// Reads until the buffer is full or the input ends, and gives how many bytes stand at the buffer's start. They are the input's next ones, in
-// their order, and where they do not fill the buffer the input has no more. Of the bytes after them std's `read` says nothing.
+// Reads until the buffer is full or the input ends, and gives how many bytes stand at the buffer's start. Of a reader whose bytes are known
+// they are the next ones, and where they do not fill the buffer it has no more. Of the bytes after them std's `read` says nothing.
 pub fn read_full<R: Read>(input: &mut R, buffer: &mut [u8]) -> io::Result<usize>
     ensures within { IfOk result (λ n. n ≤ length buffer.new) }
     ensures bytes { IfOk result (λ n. Consumes (R.remaining input.old) (R.remaining input.new) (take n buffer.new)) }
