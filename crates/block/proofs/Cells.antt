@@ -1,19 +1,15 @@
 -- Cells in blocks: where a cell's bytes stand, and the zero byte of each.
 use mathlib.Core.Path.{◌≡◌, sym, ap, ◌∙◌}
-use mathlib.Core.Bool.{true, false}
 use mathlib.Core.List.{List}
 use Prim.Native.Nat.{ℕ, ◌+◌, ◌*◌, ◌≤◌, ◌<◌}
 use native.Mathlib.Nat.{add-mul, add_assoc, mul_assoc, mul_comm}
 use native.Mathlib.Omega.{arith}
-use borrow.Author.Tests.{eq-eqb, ne_eqb}
-use lib.Dec.{eqb}
-use lib.ListN.{length, get_or, take, drop}
+use lib.ListN.{length, take, drop}
 use Rattle.laws.proofs.Lists.{length_part}
-use Rattle.laws.proofs.Upto.{all-no, all_more}
 use Rattle.layout.specs.declared.Layout.{Layout}
 use Rattle.layout.specs.declared.Sizes.{Sizes}
 use Rattle.layout.specs.Sizes.{part_cells, table_cells, cell_bytes, blocks}
-use Rattle.block.specs.Block.{block_at, zero_bytes}
+use Rattle.block.specs.Block.{block_at}
 
 -- the cells fill k × q blocks
 pub table-rows : (l : Layout) (z : Sizes) → table_cells l z ≡ z.k * z.q * l.cells
@@ -33,13 +29,3 @@ used-long z image whole n w h q = length_part (block_at image n) 16 w (omega (ar
 pub byte-place : (l : Layout) (m c j : ℕ) → (m * l.cells + c) * l.cell + j ≡ m * (l.cells * l.cell) + (c * l.cell + j)
 byte-place l m c j =
     rw (add-mul (m * l.cells) c l.cell, mul_assoc m l.cells l.cell) (add_assoc (m * (l.cells * l.cell)) (c * l.cell) j)
-
--- the zero bytes, one cell at a time
-pub zero-no : (l : Layout) (n : ℕ) (s : List ℕ) (c : ℕ) → c < n → (get_or s (c * l.cell + l.key) 0 ≡ 0 → ⊥) → false ≡ zero_bytes l n s
-unfolding zero_bytes
-zero-no l n s c h p = sym (all-no n (λ i. eqb (get_or s (i * l.cell + l.key) 0) 0) c h (ne_eqb (get_or s (c * l.cell + l.key) 0) 0 p))
-
-pub zero_more : (l : Layout) (s : List ℕ) (c : ℕ) → zero_bytes l c s ≡ true → get_or s (c * l.cell + l.key) 0 ≡ 0 → zero_bytes l (c + 1) s ≡ true
-unfolding zero_bytes
-zero_more l s c h p =
-    all_more c (λ i. eqb (get_or s (i * l.cell + l.key) 0) 0) ∙ rw h (eq-eqb (get_or s (c * l.cell + l.key) 0) 0 p)

@@ -22,13 +22,5 @@ pub fn zero_bytes(l: Layout, n: usize, cells: &[u8]) -> bool
     requires { Lays l × (n * l.cell ≤ length cells.now) }
     ensures { result ≡ zero_bytes l n cells.now }
 {
-    let mut c = 0;
-    while c < n {
-        let at = c * l.cell + l.key;
-        if cells[at] != 0 {
-            return false;
-        }
-        c += 1;
-    }
-    true
+    (0..n).all(|c| cells[c * l.cell + l.key] == 0)
 }

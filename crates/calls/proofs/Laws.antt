@@ -3,32 +3,25 @@ use mathlib.Core.Path.{◌≡◌, refl, sym, ap, ◌∙◌}
 use mathlib.Core.List.{List, append-nil}
 use Prim.Native.Nat.{ℕ, ◌*◌, ◌<◌, ◌≤◌}
 use native.Mathlib.Nat.{zero-add}
-use native.Mathlib.Decide.{dec_lt}
 use native.Mathlib.Omega.{arith}
 use borrow.Author.Tests.{le-leb, lt-leb}
 use lib.Dec.{eqb}
 use lib.ListN.{length, take, drop, length-append, length-drop}
-use lib.Seq.{length-take-le, take_at, get_or-take, drop-length}
+use lib.Seq.{take_at, get_or-take, drop-length}
 use Rattle.laws.specs.Digit.{digit}
 use Rattle.laws.proofs.Lists.{part-inside}
 use Rattle.laws.proofs.Rows.{row_within}
 use Rattle.laws.proofs.Upto.{list_same}
-use Rattle.list.specs.Records.{Records, key_at, is_known, is_handed}
+use Rattle.layout.specs.Sizes.{ipv4_layout}
+use Rattle.list.specs.Records.{Records, Room, key_at, is_known, is_handed}
 use Rattle.packet.specs.Key.{key_from}
 use Rattle.room.specs.Memory.{Memory, memory}
 use Rattle.records.specs.declared.Record.{Record}
 use Rattle.records.specs.Record.{record_at, apart, together, apart_upto, together_upto}
 use Rattle.records.proofs.Trip.{apart-room}
-use Rattle.calls.specs.Calls.{Arrays, Ran, ran, taken, first, over}
-
--- ---- the first records of the arrays
--- their lengths
-pub first-long : (most n : ℕ) (rs : Records) → n ≤ most → Arrays most rs
-    → (n * 13 ≡ length (take (n * 13) rs.keys)) × ((n ≡ length (take n rs.counts)) × (n ≡ length (take n rs.flags)))
-first-long most n rs h a = (
-  sym (length-take-le (n * 13) rs.keys (omega (arith, a.keys-fit))),
-  (sym (length-take-le n rs.counts (omega (arith, a.counts-fit))), sym (length-take-le n rs.flags (omega (arith, a.flags-fit)))),
-)
+use Rattle.calls.specs.Calls.{Arrays, Ran, ran, taken}
+-- crates above name these here
+unfoldable pub use Rattle.calls.specs.Calls.{first, over}
 
 -- what a call leaves, with the first n records of the arrays written over
 abbrev pub widened : {A : Type 0} → ℕ → Records → A → Memory → Ran A
@@ -43,18 +36,15 @@ pub taken_none : (most n : ℕ) → most < n → taken most n ≡ 0
 unfolding taken
 taken_none most n h = rw (lt-leb n most h)
 
-pub taken-few : (most n : ℕ) → taken most n ≤ most
-taken-few most n = elim (dec_lt most n) [ yes h ↦ rw (taken_none most n h) (omega arith) | no h ↦ let l : n ≤ most = omega arith in rw (taken-all most n l) l ]
-
--- no more records than there are
-pub taken-le : (most n : ℕ) → taken most n ≤ n
-taken-le most n = elim (dec_lt most n) [ yes h ↦ rw (taken_none most n h) (omega arith) | no h ↦ let l : n ≤ most = omega arith in rw (taken-all most n l) (omega arith) ]
-
 -- ---- what was written over the arrays is read from them again
-pub first-over : (n : ℕ) (new rs : Records) → length new.keys ≡ n * 13 → length new.counts ≡ n → length new.flags ≡ n → first n (over n new rs) ≡ new
+pub first-over : (n : ℕ) (new rs : Records) → Room ipv4_layout n new → first n (over n new rs) ≡ new
 unfolding first over
-first-over n new rs a b c =
-    rw (take_at new.keys (drop (n * 13) rs.keys) (n * 13) a, take_at new.counts (drop n rs.counts) n b, take_at new.flags (drop n rs.flags) n c)
+first-over n new rs a =
+    rw (
+      take_at new.keys (drop (n * 13) rs.keys) (n * 13) a.keys-fit,
+      take_at new.counts (drop n rs.counts) n a.counts-fit,
+      take_at new.flags (drop n rs.flags) n a.flags-fit,
+    )
 
 -- a record of the arrays is one of their first
 record-first : (n i : ℕ) (rs : Records) → i < n → record_at (first n rs) i ≡ record_at rs i
@@ -74,17 +64,16 @@ record-first n i rs h =
 pub first-apart : (list : List Record) (rs : Records) → first (length list) (apart_upto (length list) list rs) ≡ apart list
 unfolding apart_upto apart over
 first-apart list rs =
-    let r = apart-room list in
-    first-over (length list) (apart list) rs r.keys-fit r.counts-fit r.flags-fit
+    first-over (length list) (apart list) rs (apart-room list)
 
-pub together-over : (list : List Record) (new rs : Records) → length new.keys ≡ length list * 13 → length new.counts ≡ length list → length new.flags ≡ length list
+pub together-over : (list : List Record) (new rs : Records) → Room ipv4_layout (length list) new
     → together_upto (length list) (over (length list) new rs) list ≡ together new
 unfolding together_upto together
-together-over list new rs a b c =
+together-over list new rs a =
     let n = length list in
-    rw (drop-length list, append-nil, b)
+    rw (drop-length list, append-nil, a.counts-fit)
     (list_same n (record_at (over n new rs)) (record_at new)
-    (λ i h. sym (record-first n i (over n new rs) h) ∙ ap (λ x. record_at x i) (first-over n new rs a b c)))
+    (λ i h. sym (record-first n i (over n new rs) h) ∙ ap (λ x. record_at x i) (first-over n new rs a)))
 
 -- none of the arrays' records
 pub first-none : (rs : Records) → length (first 0 rs).counts ≡ 0
@@ -92,13 +81,10 @@ unfolding first
 first-none rs = refl
 
 -- what is written over the arrays, which keep their lengths, is as long as what stood there
-pub over-long : (most n : ℕ) (new rs : Records) → n ≤ most → Arrays most rs → Arrays most (over n new rs)
-    → (length new.keys ≡ n * 13) × ((length new.counts ≡ n) × (length new.flags ≡ n))
+pub over-long : (most n : ℕ) (new rs : Records) → n ≤ most → Arrays most rs → Arrays most (over n new rs) → Room ipv4_layout n new
 unfolding over
-over-long most n new rs h a b = (
-  omega (arith, length-append new.keys (drop (n * 13) rs.keys), length-drop (n * 13) rs.keys, a.keys-fit, b.keys-fit),
-  (
-    omega (arith, length-append new.counts (drop n rs.counts), length-drop n rs.counts, a.counts-fit, b.counts-fit),
-    omega (arith, length-append new.flags (drop n rs.flags), length-drop n rs.flags, a.flags-fit, b.flags-fit),
-  ),
-)
+over-long most n new rs h a b = record {
+  keys-fit = omega (arith, length-append new.keys (drop (n * 13) rs.keys), length-drop (n * 13) rs.keys, a.keys-fit, b.keys-fit);
+  counts-fit = omega (arith, length-append new.counts (drop n rs.counts), length-drop n rs.counts, a.counts-fit, b.counts-fit);
+  flags-fit = omega (arith, length-append new.flags (drop n rs.flags), length-drop n rs.flags, a.flags-fit, b.flags-fit);
+}

@@ -6,24 +6,25 @@ use mathlib.Core.Logic.{◌⊎◌, inl, inr}
 use Prim.Native.Nat.{ℕ, ◌*◌, ◌<◌}
 use native.Mathlib.Omega.{arith}
 use lib.ListN.{length}
+use Rattle.std.specs.Prelude.{Result, Ok, Err}
 use Rattle.laws.proofs.Bools.{split, refuted}
 use Rattle.layout.specs.declared.Sizes.{Sizes}
 use Rattle.layout.specs.Sizes.{Ranged, in_range, ipv4_layout, table_cells}
 use Rattle.layout.proofs.Ranges.{ranged, lays-ipv4, table-low, table-high}
 use Rattle.list.specs.Records.{Records}
 use Rattle.packet.specs.declared.Key.{Key}
-use Rattle.reading.specs.declared.Reading.{Reading}
-use Rattle.reading.specs.declared.Reading.TheVariants as read
-use Rattle.reading.specs.Read.{read_of}
+use Rattle.reading.specs.declared.ReadError.{ReadError}
+use Rattle.reading.specs.declared.Image.{Image}
+use Rattle.reading.specs.Read.{read_of, image_with}
 use Rattle.reading.proofs.Accepts.{accepted}
 use Rattle.room.specs.declared.Session.{Session}
 use Rattle.room.specs.Memory.{Memory, room_fits}
 use Rattle.room.specs.Test.{tested}
 use Rattle.room.proofs.Laws.{rooms-told}
 use Rattle.opening.specs.Open as opens
-use Rattle.session.specs.declared.HandOver.TheVariants as over
-use Rattle.session.specs.declared.Settled.TheVariants as settled
-use Rattle.session.specs.declared.Reported.TheVariants as reported
+use Rattle.session.specs.declared.SessionError.TheVariants.{NotSession, BadRoom}
+use Rattle.session.specs.declared.HandOverError.TheVariants as over
+use Rattle.session.specs.declared.SettleError.TheVariants as settled
 use Rattle.session.specs.Calls.{Settling, settle_of, Handing, hand_over, report_on}
 use Rattle.calls.specs.Calls.{ran, settling, handing, opening, reporting}
 
@@ -52,30 +53,26 @@ misfit-refused s m notSession badRoom passed h = elim (split (in_range s.sizes))
   | inr p ↦ rw p
 ]
 
-pub settle-misfit : (s : Session) (m : Memory) → Misfit 3072 m.list → settling s m ≡ ran (refusal s settled.NotSession settled.BadRoom) m
+pub settle-misfit : (s : Session) (m : Memory) → Misfit 3072 m.list → settling s m ≡ ran (refusal s (Err (settled.Session NotSession)) (Err (settled.Session BadRoom))) m
 unfolding settle_of
 settle-misfit s m h =
     ap (λ (e : Settling). ran e.answer e.room) (misfit-refused s m _ _ _ h) ∙ elim (split (in_range s.sizes)) [ inl p ↦ rw p | inr p ↦ rw p ]
 
-pub hand-misfit : (s : Session) (key : Key) (m : Memory) → Misfit 3072 m.list → handing s key m ≡ ran (refusal s over.NotSession over.BadRoom) m
+pub hand-misfit : (s : Session) (key : Key) (m : Memory) → Misfit 3072 m.list → handing s key m ≡ ran (refusal s (Err (over.Session NotSession)) (Err (over.Session BadRoom))) m
 unfolding hand_over
 hand-misfit s key m h =
     ap (λ (e : Handing). ran e.answer e.room) (misfit-refused s m _ _ _ h) ∙ elim (split (in_range s.sizes)) [ inl p ↦ rw p | inr p ↦ rw p ]
 
-pub report-misfit : (s : Session) (m : Memory) → Misfit 3072 m.list → reporting s m ≡ ran (refusal s reported.NotSession reported.BadRoom) m
+pub report-misfit : (s : Session) (m : Memory) → Misfit 3072 m.list → reporting s m ≡ ran (refusal s (Err NotSession) (Err BadRoom)) m
 unfolding report_on
 report-misfit s m h = ap (λ e. ran e m) (misfit-refused s m _ _ _ h)
 
 -- ---- opening
-misfit-read : (image : List ℕ) (slot : ℕ) (m : Memory) (r : Reading) → ((z : Sizes) (salt : ℕ) → r ≡ read.Image z salt → Ranged z) → Misfit 3072 m.list
+misfit-read : (image : List ℕ) (slot : ℕ) (m : Memory) (r : Result Image ReadError) → ((z : Sizes) (salt : ℕ) → r ≡ image_with z salt → Ranged z) → Misfit 3072 m.list
     → opens.open_read ipv4_layout slot image m r ≡ opens.opening (opens.refused r) m
 unfolding opens.open_read
-misfit-read image slot m (read.Image z salt) q h = rw (room-misfit z m (q z salt refl) h)
-misfit-read image slot m read.Length q h = refl
-misfit-read image slot m (read.Check n) q h = refl
-misfit-read image slot m (read.Form n) q h = refl
-misfit-read image slot m (read.Mixed n) q h = refl
-misfit-read image slot m read.Stale q h = refl
+misfit-read image slot m (Ok i) q h = rw (room-misfit i.sizes m (q i.sizes i.salt refl) h)
+misfit-read image slot m (Err e) q h = refl
 
 pub open-misfit : (image : List ℕ) (slot : ℕ) (m : Memory) → Misfit 3072 m.list
     → opening image slot m ≡ ran (opens.refused (read_of ipv4_layout image slot)) m

@@ -2,12 +2,14 @@
 use mathlib.Core.Path.{◌≡◌, refl, sym, ap, ◌∙◌}
 use mathlib.Core.List.{List}
 use Prim.Native.Nat.{ℕ}
+use Rattle.std.specs.Prelude.{Result}
 use Rattle.laws.specs.Outcomes.{Determined}
 use Rattle.laws.proofs.Outcomes.{both}
 use Rattle.table.specs.Table.{tab}
-use Rattle.opening.specs.declared.Opened.{Opened}
-use Rattle.session.specs.declared.HandOver.{HandOver}
-use Rattle.session.specs.declared.Settled.{Settled}
+use Rattle.opening.specs.declared.OpenError.{OpenError}
+use Rattle.room.specs.declared.Session.{Session}
+use Rattle.session.specs.declared.HandOverError.{HandOverError}
+use Rattle.session.specs.declared.SettleError.{SettleError}
 use Rattle.records.specs.declared.Record.{Record}
 use Rattle.records.specs.Outcomes.{Determines}
 use Rattle.calls.specs.Calls.{Lent, lent, Called, called, settle_records, hand_records, open_records, report_records}
@@ -19,7 +21,7 @@ use Rattle.calls.specs.contracts.hand_over as hand-over
 use Rattle.calls.specs.contracts.open as open-call
 
 pub taken-of-determined : Determined _ taken-of-kinds.ps taken-of-kinds.r Taken-of.Asked Taken-of.Learnt
-taken-of-determined κs a p z z' ws ws' e e' = (e ∙ sym e', refl)
+taken-of-determined κs a p z z' ws ws' e e' = (e.0 ∙ sym e'.0, refl)
 
 pub report-determines : Determines report.ended (λ M 𝓤 𝓛. report.clauses 𝓛)
 report-determines = record {
@@ -47,8 +49,8 @@ settle-determines = record {
       a.1.1.1.1.0.now a.1.1.1.1.1.1.1.1.0.now);
   says = λ M 𝓤 𝓛 mem run κs a g z e. refl;
   determined = λ κs a z z' ws ws' p p'. let q = p ∙ sym p' in (
-    ap (λ (x : Called Settled). x.answer) q,
-    both refl (both refl (ap (λ (x : Called Settled). written x.room) q)),
+    ap (λ (x : Called (Result ℕ SettleError)). x.answer) q,
+    both refl (both refl (ap (λ (x : Called (Result ℕ SettleError)). written x.room) q)),
   );
 }
 
@@ -62,8 +64,8 @@ hand-over-determines = record {
       a.1.1.1.1.1.0.now a.1.1.1.1.1.1.1.1.1.0.now);
   says = λ M 𝓤 𝓛 mem run κs a g z e. refl;
   determined = λ κs a z z' ws ws' p p'. let q = p ∙ sym p' in (
-    ap (λ (x : Called HandOver). x.answer) q,
-    ap (λ (x : Called HandOver).
+    ap (λ (x : Called (Result ℕ HandOverError)). x.answer) q,
+    ap (λ (x : Called (Result ℕ HandOverError)).
         let m = x.room in
         let t = m.table in (tt, (tt, (tt, (t.xors, (t.flows, (tt, (t.unknowns, (t.positions, (t.marks, (m.list, tt))))))))))) q,
   );
@@ -79,7 +81,7 @@ open-determines = record {
       a.1.1.1.1.1.0.now a.1.1.1.1.1.1.1.1.1.0.now);
   says = λ M 𝓤 𝓛 mem run κs a g z e. refl;
   determined = λ κs a z z' ws ws' p p'. let q = p ∙ sym p' in (
-    ap (λ (x : Called Opened). x.answer) q,
-    both refl (both refl (both (ap (λ (x : Called Opened). x.room.filter) q) (ap (λ (x : Called Opened). written x.room) q))),
+    ap (λ (x : Called (Result Session OpenError)). x.answer) q,
+    both refl (both refl (both (ap (λ (x : Called (Result Session OpenError)). x.room.filter) q) (ap (λ (x : Called (Result Session OpenError)). written x.room) q))),
   );
 }

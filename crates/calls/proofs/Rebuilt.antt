@@ -5,24 +5,17 @@ use mathlib.Core.Logic.{inl, inr}
 use Prim.Native.Nat.{ℕ, ◌*◌, ◌<◌, ◌≤◌}
 use native.Mathlib.Decide.{dec_lt}
 use native.Mathlib.Omega.{arith}
-use lib.ListN.{length, replicate, length-replicate}
-use Rattle.list.specs.Records.{Records, records}
+use lib.ListN.{length, replicate}
+use Rattle.layout.specs.Sizes.{ipv4_layout}
+use Rattle.list.specs.Records.{Records, records, Room}
 use Rattle.room.specs.Memory.{Memory, memory}
 use Rattle.records.specs.declared.Record.{Record}
-use Rattle.records.specs.Record.{AllFit, Wide, apart, together, apart_upto, together_upto}
+use Rattle.records.specs.Record.{AllFit, apart, together, apart_upto, together_upto}
 use Rattle.records.proofs.Laws.{together-none}
 use Rattle.records.proofs.Trip.{apart-room, together-apart}
 use Rattle.calls.specs.Calls.{Arrays, Lent, lent, Ran, ran, Called, called, taken, first, over, over_first, over_records, as_numbers, as_records}
-use Rattle.calls.proofs.Laws.{taken-all, taken_none, taken-few, taken-le, widened, first-none, first-apart, over-long, together-over}
+use Rattle.calls.proofs.Laws.{taken-all, taken_none, widened, first-none, first-apart, over-long, together-over}
 use Rattle.calls.proofs.Misfit.{Misfit}
-
--- the arrays have room for what is taken apart
-pub taken-wide : (most n : ℕ) (rs : Records) → Arrays most rs → Wide (taken most n) rs
-taken-wide most n rs a = record {
-  keys-fit = omega (arith, taken-few most n, a.keys-fit);
-  counts-fit = omega (arith, taken-few most n, a.counts-fit);
-  flags-fit = omega (arith, taken-few most n, a.flags-fit);
-}
 
 -- ---- a call over numbers that keeps a list of the wrong length, and answers the same for each
 module _ (most : ℕ) {A : Type 0} (call : Memory → Ran A) (refused : A) (misfit : (m : Memory) → Misfit most m.list → call m ≡ ran refused m) where
@@ -48,7 +41,7 @@ module _ (most : ℕ) {A : Type 0} (call : Memory → Ran A) (refused : A) (misf
         let rs : after.list ≡ over n out.room.list now = ap (λ (x : Ran A). x.room.list) g in
         let long = over-long most n out.room.list now h arrays (subst (Arrays most) rs kept) in
         let list : list' ≡ together out.room.list = (rw (t, rs) at together-is)
-        ∙ together-over m.list out.room.list now long.0 long.1.0 long.1.1 in
+        ∙ together-over m.list out.room.list now long in
         λ j. called (g j).answer (lent (g j).room.filter (g j).room.table (g j).room.packets (list j))
 
     -- and one that none ask for
@@ -74,54 +67,55 @@ module _ (most : ℕ) {A : Type 0} (call : Memory → Ran A) (refused : A) (misf
 abbrev pub zeros : ℕ → Records
 zeros most = records (replicate (most * 13) 0) (replicate most 0) (replicate most 0)
 
-zero-arrays : (most : ℕ) → Arrays most (zeros most)
-zero-arrays most = record { keys-fit = length-replicate {A = ℕ} (most * 13) 0; counts-fit = length-replicate {A = ℕ} most 0; flags-fit = length-replicate {A = ℕ} most 0 }
-
--- arrays that keep their lengths
-pub arrays-kept : (most : ℕ) (old new : Records) → Arrays most old → length new.keys ≡ length old.keys → length new.counts ≡ length old.counts
-    → length new.flags ≡ length old.flags → Arrays most new
-arrays-kept most old new o a b c = record { keys-fit = a ∙ o.keys-fit; counts-fit = b ∙ o.counts-fit; flags-fit = c ∙ o.flags-fit }
-
-pub arrays-first : (most : ℕ) (new : Records) → length new.keys ≡ length (zeros most).keys → length new.counts ≡ length (zeros most).counts
-    → length new.flags ≡ length (zeros most).flags → Arrays most new
-arrays-first most new = arrays-kept most (zeros most) new (zero-arrays most)
-
-module _ (most : ℕ) {n k : ℕ} (list : List Record) (whole : (n ≡ length list) × AllFit list) (some : k ≡ taken most n) where
-  taken_is : k ≡ taken most (length list)
-  taken_is = some ∙ ap (taken most) whole.0
-
-  pub few-taken : k ≤ most
-  few-taken = rw taken_is (taken-few most (length list))
-
-  pub inside : {rs : Records} → Arrays most rs → (k ≤ length list) × Wide k rs
-  inside {rs = rs} a = rw taken_is (taken-le most (length list), taken-wide most (length list) rs a)
-
-  pub inside-zeros : (k ≤ length list) × Wide k (zeros most)
-  inside-zeros = inside (zero-arrays most)
-
 module _ (most : ℕ) {A : Type 0} (call : Memory → Ran A) (refused : A) (misfit : (m : Memory) → Misfit most m.list → call m ≡ ran refused m)
     (m : Lent) {n k : ℕ} (whole : (n ≡ length m.list) × AllFit m.list) (some : k ≡ taken most n)
-    (now : Records) (arrays : Arrays most now) (apart-is : now ≡ apart_upto k m.list (zeros most)) where
-  pub calls-records : (answer : A) (after : Memory) (list' : List Record) → Arrays most after.list
-      → ran answer after ≡ over_first call k (memory m.filter m.table m.packets now) → list' ≡ together_upto k after.list m.list
+    (now : Records) (apart-is : now ≡ apart_upto k m.list (zeros most)) where
+  abbrev before : Memory
+  before = memory m.filter m.table m.packets (first k now)
+
+  taken_is : k ≡ taken most (length m.list)
+  taken_is = some ∙ ap (taken most) whole.0
+
+  all : length m.list ≤ most → k ≡ length m.list
+  all h = taken_is ∙ taken-all most (length m.list) h
+
+  none : most < length m.list → k ≡ 0
+  none h = taken_is ∙ taken_none most (length m.list) h
+
+  -- a list that some sizes may ask for
+  before-few : length m.list ≤ most → before ≡ as_numbers m
+  before-few h = ap (memory m.filter m.table m.packets) (ap (λ j. first j now) (all h) ∙ ap (first (length m.list)) (rw (all h) at apart-is) ∙ first-apart m.list (zeros most))
+
+  -- and one that none ask for
+  before-many : most < length m.list → call before ≡ ran refused before
+  before-many h = misfit before (inl (rw (none h) (first-none now)))
+
+  refused-many : most < length m.list → call (as_numbers m) ≡ ran refused (as_numbers m)
+  refused-many h = misfit (as_numbers m) (inr (rw (apart-room m.list).counts-fit h))
+
+  pub calls-records : (answer : A) (after : Memory) (list' : List Record) → Room ipv4_layout k after.list
+      → ran answer after ≡ call before → list' ≡ together_upto k (over k after.list now) m.list
       → called answer (lent after.filter after.table after.packets list') ≡ over_records call m
-  calls-records answer after list' kept e together-is =
-      let t = taken_is most m.list whole some in
-      rebuilt most call refused misfit m (zeros most) now after answer list' (rw t at e) (rw t at apart-is) kept arrays (rw t at together-is) whole.1
+  unfolding over_records
+  calls-records answer after list' left e together-is = elim (dec_lt most (length m.list)) [
+    | no l ↦
+        let h : length m.list ≤ most = omega arith in
+        let g : ran answer after ≡ call (as_numbers m) = e ∙ ap call (before-few h) in
+        let back = (rw (all h) at together-is) ∙ together-over m.list after.list now (rw (all h) at left) in
+        ap (λ list. called answer (lent after.filter after.table after.packets list)) back
+        ∙ ap (λ (x : Ran A). called x.answer (as_records x.room)) g
+    | yes h ↦
+        let g : ran answer after ≡ ran refused before = e ∙ before-many h in
+        let same : list' ≡ m.list = (rw (none h) at together-is) ∙ sym (together-none (over 0 after.list now) m.list) in
+        ap (λ list. called answer (lent after.filter after.table after.packets list)) same
+        ∙ ap (λ (x : Ran A). called x.answer (lent x.room.filter x.room.table x.room.packets m.list)) g
+        ∙ ap (λ list. called refused (lent m.filter m.table m.packets list)) (sym (together-apart m.list whole.1))
+        ∙ ap (λ (x : Ran A). called x.answer (as_records x.room)) (sym (refused-many h))
+  ]
 
   -- of a call that keeps all memory, the answer alone
-  pub tells-records : (answer : A) → answer ≡ (over_first call k (memory m.filter m.table m.packets now)).answer → answer ≡ (call (as_numbers m)).answer
-  unfolding over_first
-  tells-records answer e =
-      let t = taken_is most m.list whole some in
-      elim (dec_lt most (length m.list)) [
-        | yes h ↦
-            let many : k ≡ 0 = t ∙ taken_none most (length m.list) h in
-            let here = misfit (memory m.filter m.table m.packets (first 0 now)) (inl (first-none now)) in
-            let there = misfit (as_numbers m) (inr (rw (apart-room m.list).counts-fit h)) in
-            (rw many at e) ∙ ap (λ (x : Ran A). x.answer) here ∙ ap (λ (x : Ran A). x.answer) (sym there)
-        | no h ↦
-            let few : k ≡ length m.list = t ∙ taken-all most (length m.list) (omega arith) in
-            let same : first k now ≡ apart m.list = rw few (ap (first (length m.list)) (rw few at apart-is) ∙ first-apart m.list (zeros most)) in
-            e ∙ ap (λ rs. (call (memory m.filter m.table m.packets rs)).answer) same
-      ]
+  pub tells-records : (answer : A) → answer ≡ (call before).answer → answer ≡ (call (as_numbers m)).answer
+  tells-records answer e = elim (dec_lt most (length m.list)) [
+    | no l ↦ e ∙ ap (λ x. (call x).answer) (before-few (omega arith))
+    | yes h ↦ e ∙ ap (λ (x : Ran A). x.answer) (before-many h) ∙ ap (λ (x : Ran A). x.answer) (sym (refused-many h))
+  ]

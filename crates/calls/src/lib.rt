@@ -1,25 +1,28 @@
 // The calls on a single-switch session of IPv4 keys, with the found flows lent as a slice of records: open, hand-over, settle, report.
 // It rests on session for the calls over number slices and on records for the list apart and together. A call takes the list apart once,
-// runs over the numbers, and puts the list together once.
+// runs over the numbers, and puts the list together once. Its arrays have room for 3,072 records, as 2 N is at most that, and a key has 13 bytes. Each
+// call makes the three itself: a struct of them with const parameters would need the length of the key bytes beside the number of records, since a const
+// argument is not computed, and a function that makes one would hand out 55 KB by value.
 #![tactic(auto)]
 
-ghost use Rattle.std.specs.Prelude.{◌≡◌, ◌≤◌, length};
-ghost use Rattle.list.specs.Records.{records};
-ghost use Rattle.packet.specs.Key.{key_bytes};
+ghost use Rattle.std.specs.Prelude.{◌≡◌, ◌≤◌};
 ghost use Rattle.table.specs.Table.{tab};
-ghost use Rattle.room.specs.Memory.{memory};
-ghost use Rattle.calls.specs.Calls.{Arrays, lent, ran, over_first, settling, handing, opening, reporting, called, settle_records, hand_records, open_records, report_records, taken};
+ghost use Rattle.calls.specs.Calls.{lent, called, settle_records, hand_records, open_records, report_records, taken};
 
-use opening::Opened;
+use opening::OpenError;
 use packet::Key;
 use records::Record;
 use room::Session;
-use session::{HandOver, Reported, Settled};
+use session::{HandOverError, SessionError, SettleError};
+use summary::Report;
 
 // How many of n records are taken apart into arrays for at most so many. A list that is longer than any sizes ask for is passed on as an empty
 // one, which is as wrong.
+#[tactic(auto, unfolding(crate::specs::Calls::taken))]
 pub fn taken_of(most: usize, n: usize) -> usize
-    ensures { result ≡ taken most n }
+    ensures value { result ≡ taken most n }
+    ensures few { result ≤ most }
+    ensures inside { result ≤ n }
 {
     if n <= most {
         return n;
@@ -27,9 +30,8 @@ pub fn taken_of(most: usize, n: usize) -> usize
     0
 }
 
-// Reports over the first n records of the number arrays.
-fn report_first(
-    n: usize,
+// Reports.
+pub fn report(
     s: Session,
     filter: &[u8],
     xors: &[u8],
@@ -38,16 +40,18 @@ fn report_first(
     unknowns: &[u16],
     positions: &[u16],
     marks: &[u64],
-    keys: &[u8],
-    counts: &[u32],
-    flags: &[u8],
-) -> Reported
-    requires { (n ≤ 3072) × Arrays 3072 (records keys.now counts.now flags.now) }
-    ensures { result ≡ (over_first (reporting s) n (memory filter.now
+    list: &[Record],
+) -> Result<Report, SessionError>
+    ensures { result ≡ report_records s (lent filter.now
         (tab xors.now flows.now unknowns.now positions.now marks.now)
-        packets.now (records keys.now counts.now flags.now))).answer }
+        packets.now list.now) }
 {
+    let mut keys = [0u8; 39936];
+    let mut counts = [0u32; 3072];
+    let mut flags = [0u8; 3072];
+    let n = taken_of(3072, records::length_of(list));
     let bytes = n * 13;
+    records::take_apart(list, n, &mut keys, &mut counts, &mut flags);
     session::report(
         s,
         filter,
@@ -63,72 +67,6 @@ fn report_first(
     )
 }
 
-// Reports.
-pub fn report(
-    s: Session,
-    filter: &[u8],
-    xors: &[u8],
-    flows: &[u16],
-    packets: &[u32],
-    unknowns: &[u16],
-    positions: &[u16],
-    marks: &[u64],
-    list: &[Record],
-) -> Reported
-    ensures { result ≡ report_records s (lent filter.now
-        (tab xors.now flows.now unknowns.now positions.now marks.now)
-        packets.now list.now) }
-{
-    let mut keys = [0u8; 39936];
-    let mut counts = [0u32; 3072];
-    let mut flags = [0u8; 3072];
-    let n = records::length_of(list);
-    let m = taken_of(3072, n);
-    records::take_apart(list, m, &mut keys, &mut counts, &mut flags);
-    report_first(
-        m, s, filter, xors, flows, packets, unknowns, positions, marks, &keys, &counts, &flags,
-    )
-}
-
-// Settles over the first n records of the number arrays.
-fn settle_first(
-    n: usize,
-    s: Session,
-    filter: &[u8],
-    xors: &mut [u8],
-    flows: &mut [u16],
-    packets: &mut [u32],
-    unknowns: &mut [u16],
-    positions: &mut [u16],
-    marks: &mut [u64],
-    keys: &mut [u8],
-    counts: &mut [u32],
-    flags: &mut [u8],
-) -> Settled
-    requires { (n ≤ 3072) × Arrays 3072 (records keys.old counts.old flags.old) }
-    ensures { ran result (memory filter.now
-        (tab xors.new flows.new unknowns.new positions.new marks.new)
-        packets.new (records keys.new counts.new flags.new))
-        ≡ over_first (settling s) n (memory filter.now
-        (tab xors.old flows.old unknowns.old positions.old marks.old)
-        packets.old (records keys.old counts.old flags.old)) }
-{
-    let bytes = n * 13;
-    session::settle(
-        s,
-        filter,
-        xors,
-        flows,
-        packets,
-        unknowns,
-        positions,
-        marks,
-        &mut keys[..bytes],
-        &mut counts[..n],
-        &mut flags[..n],
-    )
-}
-
 // Settles.
 pub fn settle(
     s: Session,
@@ -140,7 +78,7 @@ pub fn settle(
     positions: &mut [u16],
     marks: &mut [u64],
     list: &mut [Record],
-) -> Settled
+) -> Result<usize, SettleError>
     ensures { called result (lent filter.now
         (tab xors.new flows.new unknowns.new positions.new marks.new)
         packets.new list.new)
@@ -151,55 +89,11 @@ pub fn settle(
     let mut keys = [0u8; 39936];
     let mut counts = [0u32; 3072];
     let mut flags = [0u8; 3072];
-    let n = records::length_of(list);
-    let m = taken_of(3072, n);
-    records::take_apart(list, m, &mut keys, &mut counts, &mut flags);
-    let r = settle_first(
-        m,
-        s,
-        filter,
-        xors,
-        flows,
-        packets,
-        unknowns,
-        positions,
-        marks,
-        &mut keys,
-        &mut counts,
-        &mut flags,
-    );
-    records::put_back(list, m, &keys, &counts, &flags);
-    r
-}
-
-// Hands a key over over the first n records of the number arrays.
-fn hand_over_first(
-    n: usize,
-    s: Session,
-    key: Key,
-    filter: &[u8],
-    xors: &mut [u8],
-    flows: &mut [u16],
-    packets: &[u32],
-    unknowns: &mut [u16],
-    positions: &mut [u16],
-    marks: &mut [u64],
-    keys: &mut [u8],
-    counts: &mut [u32],
-    flags: &mut [u8],
-) -> HandOver
-    requires { (n ≤ 3072) × Arrays 3072 (records keys.old counts.old flags.old) }
-    ensures { ran result (memory filter.now
-        (tab xors.new flows.new unknowns.new positions.new marks.new)
-        packets.now (records keys.new counts.new flags.new))
-        ≡ over_first (handing s key) n (memory filter.now
-        (tab xors.old flows.old unknowns.old positions.old marks.old)
-        packets.now (records keys.old counts.old flags.old)) }
-{
+    let n = taken_of(3072, records::length_of(list));
     let bytes = n * 13;
-    session::hand_over(
+    records::take_apart(list, n, &mut keys, &mut counts, &mut flags);
+    let answer = session::settle(
         s,
-        key,
         filter,
         xors,
         flows,
@@ -210,7 +104,9 @@ fn hand_over_first(
         &mut keys[..bytes],
         &mut counts[..n],
         &mut flags[..n],
-    )
+    );
+    records::put_back(list, n, &keys, &counts, &flags);
+    answer
 }
 
 // Hands a key over.
@@ -225,7 +121,7 @@ pub fn hand_over(
     positions: &mut [u16],
     marks: &mut [u64],
     list: &mut [Record],
-) -> HandOver
+) -> Result<usize, HandOverError>
     ensures { called result (lent filter.now
         (tab xors.new flows.new unknowns.new positions.new marks.new)
         packets.now list.new)
@@ -236,56 +132,12 @@ pub fn hand_over(
     let mut keys = [0u8; 39936];
     let mut counts = [0u32; 3072];
     let mut flags = [0u8; 3072];
-    let n = records::length_of(list);
-    let m = taken_of(3072, n);
-    records::take_apart(list, m, &mut keys, &mut counts, &mut flags);
-    let r = hand_over_first(
-        m,
+    let n = taken_of(3072, records::length_of(list));
+    let bytes = n * 13;
+    records::take_apart(list, n, &mut keys, &mut counts, &mut flags);
+    let answer = session::hand_over(
         s,
         key,
-        filter,
-        xors,
-        flows,
-        packets,
-        unknowns,
-        positions,
-        marks,
-        &mut keys,
-        &mut counts,
-        &mut flags,
-    );
-    records::put_back(list, m, &keys, &counts, &flags);
-    r
-}
-
-// Opens an image over the first n records of the number arrays.
-fn open_first(
-    n: usize,
-    image: &[u8],
-    slot: u32,
-    filter: &mut [u8],
-    xors: &mut [u8],
-    flows: &mut [u16],
-    packets: &mut [u32],
-    unknowns: &mut [u16],
-    positions: &mut [u16],
-    marks: &mut [u64],
-    keys: &mut [u8],
-    counts: &mut [u32],
-    flags: &mut [u8],
-) -> Opened
-    requires { (n ≤ 3072) × Arrays 3072 (records keys.old counts.old flags.old) }
-    ensures { ran result (memory filter.new
-        (tab xors.new flows.new unknowns.new positions.new marks.new)
-        packets.new (records keys.new counts.new flags.new))
-        ≡ over_first (opening image.now slot) n (memory filter.old
-        (tab xors.old flows.old unknowns.old positions.old marks.old)
-        packets.old (records keys.old counts.old flags.old)) }
-{
-    let bytes = n * 13;
-    session::open(
-        image,
-        slot,
         filter,
         xors,
         flows,
@@ -296,7 +148,9 @@ fn open_first(
         &mut keys[..bytes],
         &mut counts[..n],
         &mut flags[..n],
-    )
+    );
+    records::put_back(list, n, &keys, &counts, &flags);
+    answer
 }
 
 // Opens an image that is wanted of a slot.
@@ -311,7 +165,7 @@ pub fn open(
     positions: &mut [u16],
     marks: &mut [u64],
     list: &mut [Record],
-) -> Opened
+) -> Result<Session, OpenError>
     ensures { called result (lent filter.new
         (tab xors.new flows.new unknowns.new positions.new marks.new)
         packets.new list.new)
@@ -322,11 +176,10 @@ pub fn open(
     let mut keys = [0u8; 39936];
     let mut counts = [0u32; 3072];
     let mut flags = [0u8; 3072];
-    let n = records::length_of(list);
-    let m = taken_of(3072, n);
-    records::take_apart(list, m, &mut keys, &mut counts, &mut flags);
-    let r = open_first(
-        m,
+    let n = taken_of(3072, records::length_of(list));
+    let bytes = n * 13;
+    records::take_apart(list, n, &mut keys, &mut counts, &mut flags);
+    let answer = session::open(
         image,
         slot,
         filter,
@@ -336,10 +189,10 @@ pub fn open(
         unknowns,
         positions,
         marks,
-        &mut keys,
-        &mut counts,
-        &mut flags,
+        &mut keys[..bytes],
+        &mut counts[..n],
+        &mut flags[..n],
     );
-    records::put_back(list, m, &keys, &counts, &flags);
-    r
+    records::put_back(list, n, &keys, &counts, &flags);
+    answer
 }

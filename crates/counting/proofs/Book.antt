@@ -2,7 +2,12 @@
 use mathlib.Core.Path.{◌≡◌, refl, sym, ap, ◌∙◌}
 use mathlib.Core.Bool.{Bool, true, false, cond}
 use mathlib.Core.List.{List}
-use Prim.Native.Nat.{ℕ, ◌+◌, ◌-◌}
+use Prim.Native.Nat.{ℕ, ◌+◌, ◌-◌, ◌<◌}
+use mathlib.Core.Logic.{inl, inr}
+use native.Mathlib.Omega.{arith}
+use borrow.Author.Tests.{ltb-true}
+use Rattle.std.specs.Prelude.{Some, None}
+use Rattle.laws.proofs.Bools.{split}
 use lib.Bits.{bit_xor}
 use lib.Dec.{ltb}
 use lib.ListN.{length, get_or, set, length-set, replicate}
@@ -12,9 +17,9 @@ use Rattle.layout.specs.declared.Layout.{Layout}
 use Rattle.layout.specs.declared.Sizes.{Sizes}
 use Rattle.layout.specs.Sizes.{Ranged}
 use Rattle.hash.specs.Places.{cell_of}
-use Rattle.marks.specs.Marks.{put_mark}
+use Rattle.marks.specs.Marks.{put_mark, first_mark}
 use Rattle.marks.proofs.Laws.{length-put}
-use Rattle.counting.specs.Book.{Book, book, Spans, ready_at, with_ready, ready_upto, any_less, exceeds, told_at, told_each, told_out}
+use Rattle.counting.specs.Book.{Book, book, Spans, ready_at, with_ready, ready_upto, lowest_ready, any_less, exceeds, told_at, told_each, told_out}
 
 -- ---- ready cells
 pub length-ready : (flows unknowns : List ℕ) (c : ℕ) (ready : List ℕ) → length (with_ready flows unknowns c ready) ≡ length ready
@@ -30,10 +35,36 @@ unfolding ready_upto
 length-upto flows unknowns n =
     each_keeps (λ (x : List ℕ). length x ≡ 24) n (with_ready flows unknowns) (replicate 24 0) refl (λ c w h e. length-ready flows unknowns c w ∙ e)
 
-pub ready-turn : (flows unknowns : List ℕ) (c : ℕ) {u v : List ℕ} → u ≡ ready_upto flows unknowns c → v ≡ with_ready flows unknowns c u
-    → v ≡ ready_upto flows unknowns (c + 1)
-unfolding ready_upto
-ready-turn flows unknowns c e f = f ∙ ap (with_ready flows unknowns c) e ∙ sym (each_more c (with_ready flows unknowns) (replicate 24 0))
+-- one cell more, where the code has the per-cell numbers in a list of its own
+module _ (flows unknowns : List ℕ) (c : ℕ) {own u : List ℕ} {t : Bool} (n : own ≡ unknowns) (e : u ≡ ready_upto flows unknowns c)
+    (s : t ≡ ready_at flows own c) where
+  ready-turn : {v : List ℕ} → v ≡ with_ready flows unknowns c u → v ≡ ready_upto flows unknowns (c + 1)
+  unfolding ready_upto
+  ready-turn f = f ∙ ap (with_ready flows unknowns c) e ∙ sym (each_more c (with_ready flows unknowns) (replicate 24 0))
+
+  pub ready-on : {v : List ℕ} → t ≡ true → v ≡ put_mark u c true → v ≡ ready_upto flows unknowns (c + 1)
+  unfolding with_ready
+  ready-on h f = ready-turn (rw (← n, ← s, h) f)
+
+  pub ready-off : t ≡ false → u ≡ ready_upto flows unknowns (c + 1)
+  unfolding with_ready
+  ready-off h = ready-turn (rw (← n, ← s, h) refl)
+
+-- the lowest one, where there is one, and that there is none
+module _ (cells : ℕ) (ready : List ℕ) where
+  pub ready_some : {c : ℕ} → lowest_ready cells ready ≡ Some c → (c ≡ first_mark ready) × (c < cells)
+  unfolding lowest_ready
+  ready_some {c} e = elim (split (ltb (first_mark ready) cells)) [
+    | inl p ↦ let q = (rw p at e) in let same : first_mark ready ≡ c = cc in (sym same, omega (arith, ltb-true (first_mark ready) cells p))
+    | inr p ↦ let q = (rw p at e) in absurd (cc)
+  ]
+
+  pub ready_none : lowest_ready cells ready ≡ None → ltb (first_mark ready) cells ≡ false
+  unfolding lowest_ready
+  ready_none e = elim (split (ltb (first_mark ready) cells)) [
+    | inl p ↦ let q = (rw p at e) in absurd (cc)
+    | inr p ↦ p
+  ]
 
 -- ---- a flow's cells
 pub less-is : (l : Layout) (z : Sizes) (r : Ranged z) (salt : ℕ) (key packets : List ℕ) (v : ℕ) {at : List ℕ} → at ≡ list_upto 4 (cell_of l z salt key)

@@ -1,11 +1,12 @@
 -- The lists that counting changes, ready cells, and a flow's packets taken out of its cells: 01 'A session'.
-use Rattle.std.specs.Prelude.{◌≡◌, Bool, true, cond, ◌&&◌, List, ℕ, ◌-◌, ◌≤◌, eqb, ltb, length, get_or, set, replicate}
+use Rattle.std.specs.Prelude.{◌≡◌, Bool, true, cond, ◌&&◌, List, ℕ, ◌-◌, ◌≤◌, eqb, ltb, length, get_or, set, replicate, Option, Some, None}
 use Rattle.std.specs.Int.Bits.{bit_xor}
 use Rattle.laws.specs.Upto.{any_upto, each_upto}
 use Rattle.layout.specs.declared.Layout.{Layout}
 use Rattle.layout.specs.declared.Sizes.{Sizes}
 use Rattle.hash.specs.Places.{cell_of}
-use Rattle.marks.specs.Marks.{put_mark}
+use Rattle.marks.specs.Marks.{put_mark, first_mark}
+use Rattle.counting.specs.declared.Tally.{Tally}
 
 -- PacketCount, the two per-cell numbers, and a bit per ready cell
 pub record Book : Type 0 where
@@ -16,6 +17,17 @@ pub record Book : Type 0 where
 
 abbrev pub book : List ℕ → List ℕ → List ℕ → List ℕ → Book
 book packets unknowns positions ready = record { packets = packets; unknowns = unknowns; positions = positions; ready = ready }
+
+-- what the lent slices hold, and that the same four are lent, whatever they hold
+abbrev pub book_of : Tally → Book
+book_of t = book t.packets.now t.unknowns.now t.positions.now t.ready.now
+
+abbrev pub TallyKept : Tally → Tally → Type 0
+TallyKept t u =
+    (t.packets.ghost_name ≡ u.packets.ghost_name) × (t.unknowns.ghost_name ≡ u.unknowns.ghost_name)
+    × (t.positions.ghost_name ≡ u.positions.ghost_name) × (t.ready.ghost_name ≡ u.ready.ghost_name)
+    × (t.packets.ref_ptr ≡ u.packets.ref_ptr) × (t.unknowns.ref_ptr ≡ u.unknowns.ref_ptr)
+    × (t.positions.ref_ptr ≡ u.positions.ref_ptr) × (t.ready.ref_ptr ≡ u.ready.ref_ptr)
 
 -- lists with an element for each of at most 1,536 cells, and 24 words that hold a bit for each
 pub record Spans (n : ℕ) (flows : List ℕ) (b : Book) : Type 0 where
@@ -37,6 +49,10 @@ with_ready flows unknowns c ready = cond (ready_at flows unknowns c) (put_mark r
 -- the ready cells below n, in 24 words
 unfoldable pub ready_upto : List ℕ → List ℕ → ℕ → List ℕ
 ready_upto flows unknowns n = each_upto n (with_ready flows unknowns) (replicate 24 0)
+
+-- 01 'A session': "the lowest ready cell" of so many, where there is one
+unfoldable pub lowest_ready : ℕ → List ℕ → Option ℕ
+lowest_ready cells ready = cond (ltb (first_mark ready) cells) (Some (first_mark ready)) None
 
 -- one of the first k places has fewer packets than v
 unfoldable pub any_less : List ℕ → ℕ → List ℕ → ℕ → Bool

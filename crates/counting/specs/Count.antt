@@ -1,15 +1,11 @@
 -- One count step, and counting while a cell is ready: 01 'A session', Settle and Damage.
-use Rattle.std.specs.Prelude.{Bool, cond, ◌||◌, List, ℕ, zero, suc, ◌*◌, ◌≤◌, ltb, leb, eqb, get_or}
+use Rattle.std.specs.Prelude.{Bool, true, false, cond, ◌||◌, List, ℕ, zero, suc, ◌*◌, ◌≤◌, ltb, leb, eqb, get_or, Result, Ok, Err}
 use Rattle.layout.specs.declared.Layout.{Layout}
 use Rattle.layout.specs.declared.Sizes.{Sizes}
 use Rattle.layout.specs.Sizes.{Lays, Ranged, table_cells}
 use Rattle.list.specs.Records.{Records, Room, key_at, with_count}
 use Rattle.marks.specs.Marks.{first_mark}
 use Rattle.counting.specs.Book.{Book, book, Spans, exceeds, told_out, ready_upto}
-use Rattle.counting.specs.declared.Step.{Step}
-use Rattle.counting.specs.declared.Step.TheVariants.{Quiet, Damaged, Next}
-use Rattle.counting.specs.declared.Stop.{Stop}
-use Rattle.counting.specs.declared.Stop.TheVariants as stop
 
 -- a layout and sizes, room for the cells and for 2 N records, of which n are listed
 pub record Fits (l : Layout) (z : Sizes) (n : ℕ) (flows : List ℕ) (b : Book) (rs : Records) : Type 0 where
@@ -20,6 +16,10 @@ pub record Fits (l : Layout) (z : Sizes) (n : ℕ) (flows : List ℕ) (b : Book)
   pub listed : n ≤ 2 * table_cells l z
 
 -- ---- one count step
+
+-- what a step says: whether a cell is ready, or 14 with the ready cell
+abbrev pub Step : Type 0
+Step = Result Bool ℕ
 
 pub record Counted : Type 0 where
   pub answer : Step
@@ -37,17 +37,21 @@ count_damaged l z salt n packets keys position v = leb n position || (eqb v 0 ||
 -- the step from a ready cell, whose one unknown flow stands at a position and has v packets
 unfoldable pub count_at : Layout → Sizes → ℕ → ℕ → List ℕ → Book → Records → ℕ → ℕ → ℕ → Counted
 count_at l z salt n flows b rs c position v =
-    cond (count_damaged l z salt n b.packets rs.keys position v) (counted (Damaged c) b rs)
-    (counted Next (told_out l z salt (key_at l rs.keys position) v position flows b) (with_count position v rs))
+    cond (count_damaged l z salt n b.packets rs.keys position v) (counted (Err c) b rs)
+    (counted (Ok true) (told_out l z salt (key_at l rs.keys position) v position flows b) (with_count position v rs))
 
 -- 01 'A session', Settle: "the lowest ready cell's PacketCount becomes the count of its one unknown flow"
 unfoldable pub count_of : Layout → Sizes → ℕ → ℕ → List ℕ → Book → Records → Counted
 count_of l z salt n flows b rs =
     cond (ltb (first_mark b.ready) (table_cells l z))
     (count_at l z salt n flows b rs (first_mark b.ready) (get_or b.positions (first_mark b.ready) 0) (get_or b.packets (first_mark b.ready) 0))
-    (counted Quiet b rs)
+    (counted (Ok false) b rs)
 
 -- ---- counting while a cell is ready
+
+-- how it ends: no cell is ready, or 14 with the ready cell
+abbrev pub Stop : Type 0
+Stop = Result (Unit {0}) ℕ
 
 pub record Ended : Type 0 where
   pub answer : Stop
@@ -62,9 +66,8 @@ ended answer packets unknowns positions rs =
 
 -- how it ends where the step is not a count
 abbrev pub stop_at : Step → Stop
-stop_at Quiet = stop.Done
-stop_at (Damaged c) = stop.Damaged c
-stop_at Next = stop.Done
+stop_at (Ok more) = Ok tt
+stop_at (Err c) = Err c
 
 -- the words of ready cells are dropped at the end
 abbrev pub ended_at : Step → Book → Records → Ended
@@ -72,13 +75,13 @@ ended_at s b rs = ended (stop_at s) b.packets b.unknowns b.positions rs
 
 -- a count is followed by the next, any other step ends it
 unfoldable pub after_count : (Book → Records → Ended) → Step → Book → Records → Ended
-after_count more Next b rs = more b rs
-after_count more Quiet b rs = ended_at Quiet b rs
-after_count more (Damaged c) b rs = ended_at (Damaged c) b rs
+after_count more (Ok true) b rs = more b rs
+after_count more (Ok false) b rs = ended_at (Ok false) b rs
+after_count more (Err c) b rs = ended_at (Err c) b rs
 
 -- at most so many counts
 unfoldable pub counts_upto : ℕ → Layout → Sizes → ℕ → ℕ → List ℕ → Book → Records → Ended
-counts_upto zero l z salt n flows b rs = ended_at Quiet b rs
+counts_upto zero l z salt n flows b rs = ended_at (Ok false) b rs
 counts_upto (suc m) l z salt n flows b rs =
     let p = count_of l z salt n flows b rs in
     after_count (counts_upto m l z salt n flows) p.answer p.cells p.list

@@ -4,13 +4,13 @@ use mathlib.Core.List.{List, []}
 use Prim.Native.Nat.{ℕ}
 use native.Mathlib.Omega.{arith}
 use lib.ListN.{length}
+use Rattle.std.specs.Prelude.{}
 use Rattle.laws.specs.BigEndian.{Bytes}
 use Rattle.layout.specs.declared.Layout.{Layout}
 use Rattle.layout.specs.declared.Sizes.{Sizes}
 use Rattle.layout.specs.Sizes.{Lays}
 use Rattle.reading.specs.Read.{read_of, filter_in, cells_in}
 use Rattle.sealing.specs.Seal.{Sealable}
-use Rattle.reading.specs.declared.Reading.TheVariants.{Image}
 use Rattle.image.proofs.Back.{read_only}
 use Rattle.image.proofs.Blocks.{length-image}
 use Rattle.session.specs.Calls.{settle_of, settle_number}
@@ -22,13 +22,14 @@ use Rattle.demands.specs.Calls.{Live, call_on, viewed, switch_at, Passing}
 use Rattle.demands.proofs.Steps.{settle-follows, settle-number}
 use Rattle.demands.proofs.Opened.{opened-viewed, opened-switch}
 use Rattle.demands.proofs.Received.{opened_live, opened-passing}
+use Rattle.reading.specs.Read.{image_with}
 
 -- 01's number 0 says that settling went through
 number-0 : (a : Stop) → stop_number a ≡ 0 → a ≡ settled
 number-0 settled e = refl
 number-0 (damage c) e = absurd (omega arith)
 
-module _ (l : Layout) (lays : Lays l) (image : List ℕ) (bytes : Bytes image) (slot : ℕ) (z : Sizes) (salt : ℕ) (e : read_of l image slot ≡ Image z salt) where
+module _ (l : Layout) (lays : Lays l) (image : List ℕ) (bytes : Bytes image) (slot : ℕ) (z : Sizes) (salt : ℕ) (e : read_of l image slot ≡ image_with z salt) where
   abbrev v : Live
   v = opened_live l z salt slot image
 

@@ -7,6 +7,7 @@ use native.Mathlib.Omega.{arith}
 use lib.Dec.{leb}
 use lib.ListN.{length}
 use borrow.Author.Tests.{ne_eqb}
+use Rattle.std.specs.Prelude.{Result, Ok, Err}
 use Rattle.layout.specs.declared.Layout.{Layout}
 use Rattle.layout.specs.declared.Sizes.{Sizes}
 use Rattle.layout.specs.Sizes.{table_cells}
@@ -16,8 +17,8 @@ use Rattle.table.specs.Table.{Tab, has_empty}
 use Rattle.peeling.specs.Peel.{listed_at}
 use Rattle.test8.specs.Test8.{is_session}
 use Rattle.settling.specs.Settle.{settle_of}
-use Rattle.handing.specs.declared.Handed.{Handed}
-use Rattle.handing.specs.declared.Handed.TheVariants.{Taken, NotInFilter, Listed, EmptyCell, TooMany}
+use Rattle.handing.specs.declared.HandError.{HandError}
+use Rattle.handing.specs.declared.HandError.TheVariants.{NotInFilter, Listed, EmptyCell, TooMany}
 use Rattle.handing.specs.Hand.{hand_of, answer_of, after_answer, hand_number, taken_by}
 use Rattle.theory.specs.Encode.{Key}
 use Rattle.theory.specs.Session.{Session}
@@ -62,10 +63,10 @@ module _ (l : Layout) (z : Sizes) (salt : ℕ) (filter : List ℕ) (n : ℕ) (t 
 
   -- ---- hand-over
   module _ (x : Key) (fits : length x ≡ l.key) where
-    abbrev answer : Handed
+    abbrev answer : Result Unit HandError
     answer = answer_of l z salt n (handed_in n rs) filter t.flows rs.keys x
 
-    in_order : (a b c d : Bool) → hand_number (cond a NotInFilter (cond b Listed (cond c EmptyCell (cond d TooMany Taken))))
+    in_order : (a b c d : Bool) → hand_number (cond a (Err NotInFilter) (cond b (Err Listed) (cond c (Err EmptyCell) (cond d (Err TooMany) (Ok tt)))))
         ≡ cond (not (not a)) 9 (cond b 10 (cond c 11 (cond d 12 0)))
     in_order true b c d = refl
     in_order false true c d = refl
@@ -78,20 +79,17 @@ module _ (l : Layout) (z : Sizes) (salt : ℕ) (filter : List ℕ) (n : ℕ) (t 
     answer-number = in_order (is_new z salt filter x) (is_listed l n rs.keys x) (has_empty l z salt t.flows x) (leb (table_cells l z) (handed_in n rs))
         ∙ sym (hand-answer l z salt n t packets rs lent (session-proper l z salt n t packets rs lent passes).0 w.passes x fits)
 
-    after-answer : (a : Handed) → (after_answer l z salt n x t rs seen a).answer ≡ a
+    after-answer : (a : Result Unit HandError) → (after_answer l z salt n x t rs seen a).answer ≡ a
     unfolding after_answer
-    after-answer Taken = refl
-    after-answer NotInFilter = refl
-    after-answer Listed = refl
-    after-answer EmptyCell = refl
-    after-answer TooMany = refl
+    after-answer (Ok x) = refl
+    after-answer (Err e) = refl
 
     -- 01's number is the theory's
     pub hand-number : hand_number (hand_of l z salt n x filter t rs seen).answer ≡ hand_answer w x before
     unfolding hand_of
     hand-number = ap hand_number (after-answer answer) ∙ answer-number
 
-    abbrev ShownAfter : Handed → Type 0
+    abbrev ShownAfter : Result Unit HandError → Type 0
     ShownAfter a = let h = after_answer l z salt n x t rs seen a in Shows l z salt (n + taken_by h.answer) h.table packets h.list (hand_over w x before)
 
     -- an answer above 0 keeps everything
@@ -99,7 +97,7 @@ module _ (l : Layout) (z : Sizes) (salt : ℕ) (filter : List ℕ) (n : ℕ) (t 
     unfolding hand_over
     shown-kept above = record { lent = lent; passes = passes; seen_as = rw (ne_eqb (hand_answer w x before) 0 (λ e. above (answer-number ∙ e))) }
 
-    shown-taken : hand_number answer ≡ 0 → ShownAfter Taken
+    shown-taken : hand_number answer ≡ 0 → ShownAfter (Ok tt)
     unfolding after_answer
     shown-taken e =
         let proper = (session-proper l z salt n t packets rs lent passes).0 in
@@ -110,16 +108,19 @@ module _ (l : Layout) (z : Sizes) (salt : ℕ) (filter : List ℕ) (n : ℕ) (t 
           seen_as = ap (λ t. t.session) (hand-is l z salt n t packets rs lent proper w.passes x fits zero);
         }
 
+    refused-above : (x : HandError) → hand_number (Err x) ≡ 0 → ⊥
+    refused-above NotInFilter q = omega (arith, q)
+    refused-above Listed q = omega (arith, q)
+    refused-above EmptyCell q = omega (arith, q)
+    refused-above TooMany q = omega (arith, q)
+
     same-listed : {m : ℕ} → m ≡ n → Shows l z salt n t packets rs (hand_over w x before) → Shows l z salt m t packets rs (hand_over w x before)
     same-listed e s = rw e s
 
-    shown-after : (a : Handed) → answer ≡ a → ShownAfter a
+    shown-after : (a : Result Unit HandError) → answer ≡ a → ShownAfter a
     unfolding after_answer
-    shown-after Taken e = shown-taken (ap hand_number e)
-    shown-after NotInFilter e = same-listed (omega arith) (shown-kept (λ q. omega (arith, sym (ap hand_number e) ∙ q)))
-    shown-after Listed e = same-listed (omega arith) (shown-kept (λ q. omega (arith, sym (ap hand_number e) ∙ q)))
-    shown-after EmptyCell e = same-listed (omega arith) (shown-kept (λ q. omega (arith, sym (ap hand_number e) ∙ q)))
-    shown-after TooMany e = same-listed (omega arith) (shown-kept (λ q. omega (arith, sym (ap hand_number e) ∙ q)))
+    shown-after (Ok x) e = shown-taken (ap hand_number e)
+    shown-after (Err x) e = same-listed (omega arith) (shown-kept (λ q. refused-above x (sym (ap hand_number e) ∙ q)))
 
     -- Theorem: it is the theory's hand-over
     pub hand-shows : let h = hand_of l z salt n x filter t rs seen in

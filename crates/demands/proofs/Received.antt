@@ -5,6 +5,7 @@ use Prim.Native.Nat.{ℕ, ◌*◌, ◌^◌, ◌<◌}
 use native.Mathlib.Omega.{arith}
 use borrow.Author.Tests.{eq-eqb}
 use lib.ListN.{length, replicate}
+use Rattle.std.specs.Prelude.{Result, Ok, Err}
 use Rattle.laws.proofs.Lists.{zero-at}
 use Rattle.laws.proofs.Upto.{each_keeps}
 use Rattle.layout.specs.declared.Layout.{Layout}
@@ -17,14 +18,12 @@ use Rattle.table.specs.Table.{pure_at}
 use Rattle.block.specs.Block.{image_of, zero_bytes}
 use Rattle.reading.specs.Read.{read_of, cells_in, filter_in}
 use Rattle.sealing.specs.Seal.{Sealable, sealing, seal_of, seal_rooms}
-use Rattle.sealing.specs.declared.Sealed.TheVariants.{Done}
-use Rattle.reading.specs.declared.Reading.{Reading}
-use Rattle.reading.specs.declared.Reading.TheVariants as read
+use Rattle.reading.specs.declared.ReadError.{ReadError}
+use Rattle.reading.specs.declared.Image.{Image}
 use Rattle.sealing.proofs.Answers.{seal-done}
 use Rattle.image.proofs.Back.{read_back}
 use Rattle.image.proofs.Blocks.{length-image}
 use Rattle.opening.specs.Open.{marks_of, opened_memory, opening, open_of}
-use Rattle.opening.specs.declared.Opened.TheVariants.{Open}
 use Rattle.opening.proofs.Answers.{opened-rooms, opened-session, open_done, open-read}
 use Rattle.room.specs.declared.Session.{Session}
 use Rattle.room.specs.Memory.{Memory, Rooms}
@@ -36,6 +35,7 @@ use Rattle.theory.specs.Session.{opened}
 use Rattle.demands.specs.Calls.{Live, live, viewed, switch_at, Passing}
 use Rattle.demands.specs.Demands.{Received}
 use Rattle.demands.proofs.Opened.{opened-viewed, opened-switch}
+use Rattle.reading.specs.Read.{image_with}
 
 -- a session of these numbers that was just opened on an image
 abbrev pub opened_live : Layout → Sizes → ℕ → ℕ → List ℕ → Live
@@ -60,28 +60,20 @@ opened-passing l z lays r salt slot image e =
       passes = opened-session l z salt image;
     }
 
-sizes_read : Sizes → Reading → Sizes
-sizes_read d (read.Image z salt) = z
-sizes_read d read.Length = d
-sizes_read d (read.Check n) = d
-sizes_read d (read.Form n) = d
-sizes_read d (read.Mixed n) = d
-sizes_read d read.Stale = d
+sizes_read : Sizes → Result Image ReadError → Sizes
+sizes_read d (Ok i) = i.sizes
+sizes_read d (Err e) = d
 
-salt_read : Reading → ℕ
-salt_read (read.Image z salt) = salt
-salt_read read.Length = 0
-salt_read (read.Check n) = 0
-salt_read (read.Form n) = 0
-salt_read (read.Mixed n) = 0
-salt_read read.Stale = 0
+salt_read : Result Image ReadError → ℕ
+salt_read (Ok i) = i.salt
+salt_read (Err e) = 0
 
 same_numbers : {s : Session} {slot : ℕ} → s.slot ≡ slot → s.listed ≡ 0 → s ≡ record { sizes = s.sizes; salt = s.salt; slot = slot; listed = 0 }
 same_numbers {s = s} c d = λ i. record { sizes = s.sizes; salt = s.salt; slot = c i; listed = d i }
 
 -- Theorem: opening with answer 0 reads the image, and leaves a session of its sizes and salt just opened on it
-pub opened-live : (l : Layout) (image : List ℕ) (slot : ℕ) (room : Memory) (v : Live) → open_of l image slot room ≡ opening (Open v.numbers) v.room
-    → (read_of l image slot ≡ read.Image v.numbers.sizes v.numbers.salt) × (v ≡ opened_live l v.numbers.sizes v.numbers.salt slot image)
+pub opened-live : (l : Layout) (image : List ℕ) (slot : ℕ) (room : Memory) (v : Live) → open_of l image slot room ≡ opening (Ok v.numbers) v.room
+    → (read_of l image slot ≡ image_with v.numbers.sizes v.numbers.salt) × (v ≡ opened_live l v.numbers.sizes v.numbers.salt slot image)
 opened-live l image slot room v e =
     let d = open_done l image slot room v.numbers (ap (λ o. o.answer) e) in
     (d.read_is, ap₂ live (same_numbers d.slot_is d.none-listed) (sym (ap (λ o. o.room) e) ∙ d.room-is))
@@ -97,7 +89,7 @@ module _ (l : Layout) (lays : Lays l) (z : Sizes) (salt slot : ℕ) (m : encoder
   image-is = sym (ap (λ s. s.image) rc.sealed)
       ∙ (seal-done l z salt slot m.filter m.cells rc.image_room (ap (λ s. s.answer) rc.sealed)).1
 
-  abbrev back : (read_of l written slot ≡ read.Image z salt) × (filter_in z written ≡ m.filter) × (cells_in l z written ≡ m.cells)
+  abbrev back : (read_of l written slot ≡ image_with z salt) × (filter_in z written ≡ m.filter) × (cells_in l z written ≡ m.cells)
   back = read_back l lays z m.filter m.cells sealable salt slot rc.salt-fits rc.slot-fits
 
   -- what was opened is what was sealed
@@ -132,7 +124,7 @@ module _ (l : Layout) (lays : Lays l) (z : Sizes) (r : Ranged z) (salt slot : �
   abbrev pub sealed_image : List ℕ
   sealed_image = image_of l z salt slot m.filter m.cells
 
-  pub seals : (image_room : List ℕ) → length image_room ≡ blocks z * 512 → seal_of l z salt slot m.filter m.cells image_room ≡ sealing Done sealed_image
+  pub seals : (image_room : List ℕ) → length image_room ≡ blocks z * 512 → seal_of l z salt slot m.filter m.cells image_room ≡ sealing (Ok tt) sealed_image
   unfolding seal_of seal_rooms zero_bytes
   seals image_room e = rw (
     range-test z r,
@@ -143,7 +135,7 @@ module _ (l : Layout) (lays : Lays l) (z : Sizes) (r : Ranged z) (salt slot : �
   )
 
   pub opens : (room : Memory) → Rooms l z room → let v = opened_live l z salt slot sealed_image in
-      open_of l sealed_image slot room ≡ opening (Open v.numbers) v.room
+      open_of l sealed_image slot room ≡ opening (Ok v.numbers) v.room
   unfolding zero_bytes
   opens room f =
       let s : Sealable l z m.filter m.cells =

@@ -7,6 +7,7 @@ use mathlib.Core.List.{List}
 use Prim.Native.Nat.{ℕ, ◌*◌, ◌<◌}
 use native.Mathlib.Omega.{arith}
 use lib.Dec.{eqb, leb}
+use Rattle.std.specs.Prelude.{None, Some, Result, Ok, Err}
 use lib.ListN.{length}
 use Rattle.layout.specs.declared.Layout.{Layout}
 use Rattle.layout.specs.declared.Sizes.{Sizes}
@@ -15,7 +16,6 @@ use Rattle.layout.specs.Numbers.{Returned, only, with_block, with_cell}
 use Rattle.fields.specs.Field.{field}
 use Rattle.filter.specs.Filter.{is_new}
 use Rattle.packet.specs.declared.Key.{Key}
-use Rattle.packet.specs.declared.Keyed.TheVariants.{Flow, Refused}
 use Rattle.packet.specs.Packet.{key_of}
 use Rattle.packet.specs.Key.{key_bytes}
 use Rattle.encoder.specs.Encoder.{rooms_fit, is_full, start_of, start_returns, packet_of, take_returns, offer, offer_key}
@@ -25,12 +25,12 @@ use Rattle.form.specs.Form.{sizes_in, formed}
 use Rattle.reading.specs.Read.{bad_length, checks, read_of, read_returns, read_number, read_block}
 use Rattle.reading.specs.First.{FirstBad}
 use Rattle.reading.proofs.First.{first-bad-named}
-use Rattle.reading.specs.declared.Reading.{Reading}
-use Rattle.reading.specs.declared.Reading.TheVariants.{Image, Length, Check, Form, Mixed, Stale}
+use Rattle.reading.specs.declared.ReadError.{ReadError}
+use Rattle.reading.specs.declared.Image.{Image}
+use Rattle.reading.specs.declared.ReadError.TheVariants.{Length, Check, Form, Mixed, Stale}
 use Rattle.list.specs.Records.{is_listed, handed_in}
 use Rattle.table.specs.Table.{has_empty}
-use Rattle.peeling.specs.declared.Stop.{Stop}
-use Rattle.peeling.specs.declared.Stop.TheVariants as stop
+use Rattle.peeling.specs.Peel.{Stop}
 use Rattle.test8.specs.Test8.{is_session}
 use Rattle.room.specs.declared.Session.{Session}
 use Rattle.room.specs.Memory.{Memory, room_fits}
@@ -46,6 +46,7 @@ use Rattle.link.specs.Answers.{stop_of}
 use Rattle.demands.specs.Calls.{Live, viewed, switch_at, Passing}
 use Rattle.demands.proofs.Lists.{settle-stops}
 use Rattle.demands.proofs.Steps.{tests-pass}
+use Rattle.reading.specs.Read.{image_with}
 
 -- ---- start: 3, 16
 module _ (l : Layout) (z : Sizes) (filter cells : List ℕ) where
@@ -78,11 +79,11 @@ module _ (z : Sizes) (salt : ℕ) (packet filter cells : List ℕ) where
     packet-16 e = rw (sizes, e) (refl, (refl, refl))
 
     module _ (room : rooms_fit ipv4_layout z (length filter) (length cells) ≡ true) where
-      pub packet-6 : key_of packet ≡ Refused → PacketRefused (only 6)
+      pub packet-6 : key_of packet ≡ None → PacketRefused (only 6)
       unfolding packet_of offer
       packet-6 e = rw (sizes, room, e) (refl, (refl, refl))
 
-      pub packet-7 : (key : Key) → key_of packet ≡ Flow key → is_full ipv4_layout z salt (is_new z salt filter (key_bytes key)) (key_bytes key) cells ≡ true
+      pub packet-7 : (key : Key) → key_of packet ≡ Some key → is_full ipv4_layout z salt (is_new z salt filter (key_bytes key)) (key_bytes key) cells ≡ true
           → PacketRefused (only 7)
       unfolding packet_of offer offer_key
       packet-7 key e f = rw (sizes, room, e, f) (refl, (refl, refl))
@@ -108,13 +109,13 @@ module _ (l : Layout) (z : Sizes) (salt slot : ℕ) (filter cells image : List �
 
 -- ---- read: 1; block 0: 2, 3, 1, 5; each later block: 2, 3, 4. It writes nothing
 -- what reading returns is its number and block
-block-told : (a : Reading) → read_returns a ≡ with_block (read_number a) (read_block a)
-block-told (Image z salt) = refl
-block-told Length = refl
-block-told (Check n) = refl
-block-told (Form n) = refl
-block-told (Mixed n) = refl
-block-told Stale = refl
+block-told : (a : Result Image ReadError) → read_returns a ≡ with_block (read_number a) (read_block a)
+block-told (Ok i) = refl
+block-told (Err Length) = refl
+block-told (Err (Check n)) = refl
+block-told (Err (Form n)) = refl
+block-told (Err (Mixed n)) = refl
+block-told (Err Stale) = refl
 
 module _ (l : Layout) (image : List ℕ) (wanted : ℕ) where
   abbrev b : List ℕ
@@ -160,15 +161,15 @@ module _ (l : Layout) (image : List ℕ) (slot : ℕ) (m : Memory) where
   unfolding open_of open_read
   open-1-to-5 = go (read_of l image slot)
     where
-      go : (a : Reading) → 0 < (read_returns a).number → let x = open_read l slot image m a in (open_returns x.answer ≡ read_returns a) × (x.room ≡ m)
-      go (Image z salt) h = absurd (omega arith)
-      go Length h = (refl, refl)
-      go (Check n) h = (refl, refl)
-      go (Form n) h = (refl, refl)
-      go (Mixed n) h = (refl, refl)
-      go Stale h = (refl, refl)
+      go : (a : Result Image ReadError) → 0 < (read_returns a).number → let x = open_read l slot image m a in (open_returns x.answer ≡ read_returns a) × (x.room ≡ m)
+      go (Ok i) h = absurd (omega arith)
+      go (Err Length) h = (refl, refl)
+      go (Err (Check n)) h = (refl, refl)
+      go (Err (Form n)) h = (refl, refl)
+      go (Err (Mixed n)) h = (refl, refl)
+      go (Err Stale) h = (refl, refl)
 
-  pub open-16 : (z : Sizes) (salt : ℕ) → read_of l image slot ≡ Image z salt → room_fits l z m ≡ false → OpenRefused (only 16)
+  pub open-16 : (z : Sizes) (salt : ℕ) → read_of l image slot ≡ image_with z salt → room_fits l z m ≡ false → OpenRefused (only 16)
   unfolding open_of open_read
   open-16 z salt e f = rw (e, f) (refl, refl)
 
@@ -246,8 +247,8 @@ stop_returns (theory.damage c) = with_cell 14 c
 
 module _ (l : Layout) (v : Live) (p : Passing l v) where
   stop_is : (a : Stop) → settle_returns (settle_answer a) ≡ stop_returns (stop_of a)
-  stop_is (stop.Done n) = refl
-  stop_is (stop.Damaged n c) = refl
+  stop_is (Ok n) = refl
+  stop_is (Err d) = refl
 
   pub settle-returns : settle_returns (settle_of l v.numbers v.room).answer ≡ stop_returns (settle_at (switch_at l v) (viewed l v)).stop
   settle-returns =

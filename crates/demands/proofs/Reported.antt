@@ -8,6 +8,7 @@ use native.Mathlib.Omega.{arith}
 use borrow.Author.Tests.{eq-eqb, lt-ltb, le-ltb}
 use lib.Dec.{eqb, ltb}
 use lib.ListN.{length, get_or, take, drop, replicate}
+use Rattle.std.specs.Prelude.{Ok}
 use Rattle.laws.specs.Upto.{all_upto}
 use Rattle.laws.specs.Zeros.{all_zero}
 use Rattle.laws.proofs.Bools.{split, and_l, and_r}
@@ -27,7 +28,6 @@ use Rattle.summary.specs.declared.State.TheVariants.{Whole}
 use Rattle.summary.specs.Report.{counted_in, nothing_left, state_of, report_of}
 use Rattle.session.specs.Calls.{report_in, report_on}
 use Rattle.session.proofs.Laws.{report-passes, told_is}
-use Rattle.session.specs.declared.Reported.TheVariants.{Told}
 use Rattle.theory.specs.Session.{keys_where, unknowns_of, open_cells}
 use Rattle.theory.specs.Report as theory
 use Rattle.theory.proofs.Whole.{whole-only}
@@ -85,7 +85,7 @@ module _ (l : Layout) (v : Live) (p : Passing l v) where
       (λ c h. rw (lt-ltb c size h))
 
   -- Theorem: 01 'A session', Report: "worked out anew from list and cells"
-  pub report-counts : (report_on l v.numbers v.room ≡ Told (report_in n v.room))
+  pub report-counts : (report_on l v.numbers v.room ≡ Ok (report_in n v.room))
       × (report_as (report_in n v.room) ≡ theory.report size (viewed l v))
   unfolding report_of theory.report
   report-counts = (
@@ -139,6 +139,6 @@ whole_in n m =
     )
 
 -- Theorem: so does the report's call on any session
-pub whole-means : (l : Layout) (s : Session) (m : Memory) (r : Report) → report_on l s m ≡ Told r
+pub whole-means : (l : Layout) (s : Session) (m : Memory) (r : Report) → report_on l s m ≡ Ok r
     → (r.state ≡ Whole → CellsZero m × (r.counted ≡ r.listed)) × (CellsZero m → r.counted ≡ r.listed → r.state ≡ Whole)
 whole-means l s m r e = subst (Whole-says m) (told_is l s m e) (whole_in s.listed m)

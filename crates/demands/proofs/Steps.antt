@@ -5,22 +5,20 @@ use mathlib.Core.List.{List, [], ◌∷◌}
 use Prim.Native.Nat.{ℕ, ◌+◌, ◌*◌}
 use native.Mathlib.Omega.{arith}
 use lib.ListN.{length}
+use Rattle.std.specs.Prelude.{Result, Ok, Err}
 use Rattle.laws.proofs.Upto.{length-list}
 use Rattle.layout.specs.declared.Layout.{Layout}
 use Rattle.layout.specs.declared.Sizes.{Sizes}
 use Rattle.layout.specs.Sizes.{table_cells}
 use Rattle.layout.proofs.Ranges.{range-test}
-use Rattle.peeling.specs.Peel.{listed_at}
-use Rattle.peeling.specs.declared.Stop.{Stop}
-use Rattle.peeling.specs.declared.Stop.TheVariants as stop
+use Rattle.peeling.specs.Peel.{Stop, listed_at}
 use Rattle.room.specs.declared.Session.{Session}
 use Rattle.room.specs.Memory.{Memory, memory}
 use Rattle.room.proofs.Laws.{rooms-asked}
 use Rattle.session.proofs.Answers.{Passes}
 use Rattle.session.proofs.Laws.{hand-over-passes, settle-passes, same_number}
 use Rattle.settling.specs.Settle as settling
-use Rattle.handing.specs.declared.Handed.{Handed}
-use Rattle.handing.specs.declared.Handed.TheVariants as handed
+use Rattle.handing.specs.declared.HandError.{HandError}
 use Rattle.handing.specs.Hand as handing
 use Rattle.handing.specs.Hand.{taken_by}
 use Rattle.session.specs.Calls.{index_of, hand_answer, hand_over, hand_over_number, Settling, settling_to, settle_leaves, settle_of, settle_number, settle_answer}
@@ -83,8 +81,8 @@ module _ (l : Layout) (v : Live) (p : Passing l v) where
   settled = settling.settle_of l z s.salt s.listed m.table m.packets m.list (index_of l s m)
 
   listed-after : (a : Stop) → after_settle s (settle_answer a) ≡ with_listed s (listed_at a)
-  listed-after (stop.Done n) = refl
-  listed-after (stop.Damaged n c) = refl
+  listed-after (Ok n) = refl
+  listed-after (Err d) = refl
 
   settle-live : call_on l theory.settling v
       ≡ live (with_listed s (listed_at settled.answer)) (memory m.filter settled.table settled.packets settled.list)
@@ -97,8 +95,8 @@ module _ (l : Layout) (v : Live) (p : Passing l v) where
       (followed (settle-shows l z s.salt m.filter s.listed m.table m.packets m.list p.lent p.passes (index_of l s m)))
 
   stop-number : (a : Stop) → settle_number (settle_answer a) ≡ stop_number (stop_of a)
-  stop-number (stop.Done n) = refl
-  stop-number (stop.Damaged n c) = refl
+  stop-number (Ok n) = refl
+  stop-number (Err d) = refl
 
   pub settle-number : settle_number (settle_of l s m).answer ≡ stop_number (theory.settle_at (switch_at l v) (viewed l v)).stop
   settle-number = rw (settle-passes l s m tests-pass) (stop-number settled.answer
@@ -126,12 +124,9 @@ module _ (l : Layout) (v : Live) (p : Passing l v) where
     same_numbers : {n : ℕ} → n ≡ s.listed → s ≡ with_listed s n
     same_numbers e = ap (with_listed s) (sym e)
 
-    listed_more : (a : Handed) → after_hand s (hand_answer s.listed a) ≡ with_listed s (s.listed + taken_by a)
-    listed_more handed.Taken = refl
-    listed_more handed.NotInFilter = same_numbers (omega arith)
-    listed_more handed.Listed = same_numbers (omega arith)
-    listed_more handed.EmptyCell = same_numbers (omega arith)
-    listed_more handed.TooMany = same_numbers (omega arith)
+    listed_more : (a : Result Unit HandError) → after_hand s (hand_answer s.listed a) ≡ with_listed s (s.listed + taken_by a)
+    listed_more (Ok x) = refl
+    listed_more (Err e) = same_numbers (omega arith)
 
     hand-live : call_on l (theory.hand x) v
         ≡ live (with_listed s (s.listed + taken_by handed-on.answer)) (memory m.filter handed-on.table m.packets handed-on.list)

@@ -1,15 +1,14 @@
 -- The calls of 01 one after the other, each on the numbers and the lent room that the call before it left.
-use Rattle.std.specs.Prelude.{◌≡◌, true, cond, List, [], ◌∷◌, ℕ, eqb, length}
+use Rattle.std.specs.Prelude.{◌≡◌, true, cond, List, [], ◌∷◌, ℕ, eqb, length, Result, Ok, Err}
 use Rattle.layout.specs.declared.Layout.{Layout}
 use Rattle.layout.specs.Sizes.{filter_bytes}
 use Rattle.room.specs.declared.Session.{Session}
 use Rattle.room.specs.Memory.{Memory}
 use Rattle.test8.specs.Test8.{is_session}
 use Rattle.session.specs.Calls.{hand_over, hand_over_number, settle_of}
-use Rattle.session.specs.declared.HandOver.{HandOver}
-use Rattle.session.specs.declared.HandOver.TheVariants as over
-use Rattle.session.specs.declared.Settled.{Settled}
-use Rattle.session.specs.declared.Settled.TheVariants as settled
+use Rattle.session.specs.declared.HandOverError.{HandOverError}
+use Rattle.session.specs.declared.SettleError.{SettleError}
+use Rattle.session.specs.declared.SettleError.TheVariants as settled
 use Rattle.theory.specs.Encode.{Key}
 use Rattle.theory.specs.Session as theory
 use Rattle.theory.specs.HandOver.{Switch, Call, hand, settling}
@@ -30,20 +29,14 @@ abbrev pub with_listed : Session → ℕ → Session
 with_listed s n = record { sizes = s.sizes; salt = s.salt; slot = s.slot; listed = n }
 
 -- a hand-over and a settling say how many flows are listed after them; a refusal says nothing of it
-abbrev pub after_hand : Session → HandOver → Session
-after_hand s (over.Done n) = with_listed s n
-after_hand s over.NotSession = s
-after_hand s over.NotInFilter = s
-after_hand s over.Listed = s
-after_hand s over.EmptyCell = s
-after_hand s over.TooMany = s
-after_hand s over.BadRoom = s
+abbrev pub after_hand : Session → Result ℕ HandOverError → Session
+after_hand s (Ok n) = with_listed s n
+after_hand s (Err e) = s
 
-abbrev pub after_settle : Session → Settled → Session
-after_settle s (settled.Done n) = with_listed s n
-after_settle s (settled.Damaged n c) = with_listed s n
-after_settle s settled.NotSession = s
-after_settle s settled.BadRoom = s
+abbrev pub after_settle : Session → Result ℕ SettleError → Session
+after_settle s (Ok n) = with_listed s n
+after_settle s (Err (settled.Damaged d)) = with_listed s d.listed
+after_settle s (Err (settled.Session e)) = s
 
 -- one call
 unfoldable pub call_on : Layout → Call → Live → Live

@@ -1,19 +1,16 @@
 -- What the code shows of a session, for demands 2 and 3; how it all begins; and what a call later needs to know.
-use Rattle.std.specs.Prelude.{◌≡◌, List, ℕ, ◌^◌, ◌<◌, length, replicate}
+use Rattle.std.specs.Prelude.{◌≡◌, List, ℕ, ◌^◌, ◌<◌, length, replicate, Result, Ok, Err}
 use Rattle.std.proofs.Math.Option.{Option, some, none}
 use Rattle.layout.specs.declared.Layout.{Layout}
 use Rattle.layout.specs.declared.Sizes.{Sizes}
 use Rattle.layout.specs.Sizes.{table_cells}
 use Rattle.meaning.specs.Meaning as encoder
-use Rattle.sealing.specs.declared.Sealed.TheVariants.{Done}
 use Rattle.sealing.specs.Seal.{seal_of, sealing}
 use Rattle.room.specs.Memory.{Memory}
-use Rattle.opening.specs.declared.Opened.TheVariants.{Open}
 use Rattle.opening.specs.Open.{open_of, opening}
 use Rattle.hash.specs.Places.{has_cell}
 use Rattle.session.specs.Calls.{settle_of, settle_number, report_on}
-use Rattle.session.specs.declared.Reported.{Reported}
-use Rattle.session.specs.declared.Reported.TheVariants as reported
+use Rattle.session.specs.declared.SessionError.{SessionError}
 use Rattle.summary.specs.declared.Report.{Report}
 use Rattle.summary.specs.declared.State.{State}
 use Rattle.summary.specs.declared.State.TheVariants as state
@@ -34,8 +31,8 @@ pub record Received (l : Layout) (z : Sizes) (salt slot : ℕ) (m : encoder.Memo
   pub image_room : List ℕ
   pub image : List ℕ
   pub room : Memory
-  pub sealed : seal_of l z salt slot m.filter m.cells image_room ≡ sealing Done image
-  pub opened : open_of l image slot room ≡ opening (Open v.numbers) v.room
+  pub sealed : seal_of l z salt slot m.filter m.cells image_room ≡ sealing (Ok tt) image
+  pub opened : open_of l image slot room ≡ opening (Ok v.numbers) v.room
 
 -- ---- what is shown
 abbrev pub state_as : State → theory.State
@@ -49,10 +46,9 @@ abbrev pub report_as : Report → theory.Report
 report_as r = record { listed = r.listed; counted = r.counted; opens = r.opens; state = state_as r.state }
 
 -- a report that is refused tells nothing
-abbrev pub told_by : Reported → Option theory.Report
-told_by (reported.Told r) = some (report_as r)
-told_by reported.NotSession = none
-told_by reported.BadRoom = none
+abbrev pub told_by : Result Report SessionError → Option theory.Report
+told_by (Ok r) = some (report_as r)
+told_by (Err e) = none
 
 -- 02 b: "every FlowXOR and PacketCount to be zero", and no FlowCount above 0: the cells of lent room are all zero
 pub record CellsZero (m : Memory) : Type 0 where

@@ -1,5 +1,5 @@
 -- The calls as a collector: the flowsets of one switch, of given sizes, salt and slot, in zeroed room of the right lengths. What it prints is given.
-use Rattle.std.specs.Prelude.{List, ℕ, ◌*◌, replicate}
+use Rattle.std.specs.Prelude.{List, ℕ, ◌*◌, replicate, Result, Ok, Err}
 use Rattle.layout.specs.declared.Layout.{Layout}
 use Rattle.layout.specs.declared.Sizes.{Sizes}
 use Rattle.layout.specs.Sizes.{ipv4_layout, table_cells, filter_bytes, blocks}
@@ -10,12 +10,11 @@ use Rattle.table.specs.Table.{tab}
 use Rattle.encoder.specs.Encoder.{take_number}
 use Rattle.meaning.specs.Meaning as encoder
 use Rattle.sealing.specs.Seal.{seal_of, seal_number}
-use Rattle.sealing.specs.declared.Sealed.{Sealed}
-use Rattle.sealing.specs.declared.Sealed.TheVariants as sealed
+use Rattle.sealing.specs.declared.SealError.{SealError}
 use Rattle.room.specs.Memory.{Memory, memory}
 use Rattle.opening.specs.Open.{open_of, open_number}
-use Rattle.opening.specs.declared.Opened.{Opened}
-use Rattle.opening.specs.declared.Opened.TheVariants as opened
+use Rattle.opening.specs.declared.OpenError.{OpenError}
+use Rattle.room.specs.declared.Session.{Session}
 use Rattle.session.specs.Calls.{hand_over, hand_over_number, settle_of, settle_number, report_on}
 use Rattle.theory.specs.Session.{Record}
 use Rattle.theory.specs.HandOver.{hand, settling}
@@ -46,20 +45,13 @@ session_room l z =
     (replicate n 0) (records (replicate (2 * n * l.key) 0) (replicate (2 * n) 0) (replicate (2 * n) 0))
 
 -- what sealing and opening give
-abbrev pub image_by : List ℕ → Sealed → Gives (List ℕ)
-image_by image sealed.Done = gives image
-image_by image sealed.BadSizes = refuses (seal_number sealed.BadSizes)
-image_by image sealed.BadRoom = refuses (seal_number sealed.BadRoom)
-image_by image sealed.BadZero = refuses (seal_number sealed.BadZero)
+abbrev pub image_by : List ℕ → Result Unit SealError → Gives (List ℕ)
+image_by image (Ok x) = gives image
+image_by image (Err e) = refuses (seal_number (Err e))
 
-abbrev pub live_by : Memory → Opened → Gives Live
-live_by room (opened.Open s) = gives (live s room)
-live_by room opened.Length = refuses (open_number opened.Length)
-live_by room (opened.Check n) = refuses (open_number (opened.Check n))
-live_by room (opened.Form n) = refuses (open_number (opened.Form n))
-live_by room (opened.Mixed n) = refuses (open_number (opened.Mixed n))
-live_by room opened.Stale = refuses (open_number opened.Stale)
-live_by room opened.BadRoom = refuses (open_number opened.BadRoom)
+abbrev pub live_by : Memory → Result Session OpenError → Gives Live
+live_by room (Ok s) = gives (live s room)
+live_by room (Err e) = refuses (open_number (Err e))
 
 abbrev pub code : {Text : Type 0} → Sizes → ℕ → ℕ → (List ℕ → Text) → Collector (List ℕ) encoder.Memory (List ℕ) Live Text
 code z salt slot print = record {

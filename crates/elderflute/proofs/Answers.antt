@@ -2,77 +2,61 @@
 use mathlib.Core.Path.{◌≡◌, sym, ap, ap₂, ◌∙◌}
 use mathlib.Core.List.{List}
 use Prim.Native.Nat.{ℕ}
+use Rattle.std.specs.Prelude.{Option, Result, Ok, Err}
 use lib.ListN.{length}
 use lib.Seq.{sets}
 use borrow.Author.Tests.{eq-eqb, ne_eqb}
 use Rattle.layout.specs.Sizes.{ipv4_layout}
-use Rattle.packet.specs.declared.Keyed.{Keyed}
+use Rattle.packet.specs.declared.Key.{Key}
 use Rattle.packet.specs.Packet.{key_of}
-use Rattle.reading.specs.declared.Reading.{Reading}
-use Rattle.reading.specs.declared.Reading.TheVariants as read
-use Rattle.reading.specs.Read.{read_of, read_number, read_block}
+use Rattle.reading.specs.declared.ReadError.{ReadError}
+use Rattle.reading.specs.declared.Image.{Image}
+use Rattle.reading.specs.Read.{read_of}
 use Rattle.reading.proofs.Accepts.{accepted}
-use Rattle.opening.specs.declared.Opened.{Opened}
-use Rattle.opening.specs.declared.Opened.TheVariants as opened
+use Rattle.opening.specs.declared.OpenError.{OpenError}
+use Rattle.room.specs.declared.Session.{Session}
 use Rattle.opening.specs.Open as below
 use Rattle.opening.specs.Open.{open_of, open_number, open_block}
 use Rattle.opening.proofs.Answers.{open_done}
 use Rattle.room.specs.Memory.{Memory}
 use Rattle.room.specs.declared.Session.{Session}
-use Rattle.session.specs.declared.HandOver.{HandOver}
-use Rattle.session.specs.declared.Settled.{Settled}
-use Rattle.session.specs.declared.Reported.{Reported}
+use Rattle.session.specs.declared.HandOverError.{HandOverError}
+use Rattle.session.specs.declared.SettleError.{SettleError}
+use Rattle.session.specs.declared.SessionError.{SessionError}
+use Rattle.summary.specs.declared.Report.{Report}
 use Rattle.session.specs.Calls as calls
 use Rattle.session.specs.Calls.{hand_over, settle_of, report_on}
 use Rattle.printing.specs.Print.{most_written, printed}
-use Rattle.exchange.specs.declared.Exchanged.{Exchanged}
 use Rattle.exchange.specs.Exchange as exchange
-use Rattle.exchange.specs.Exchange.{exchange_of}
+use Rattle.exchange.specs.Exchange.{Exchanged, exchange_of}
 use Rattle.elderflute.specs.Numbers.{session_of}
 use Rattle.elderflute.specs.Exchanges.{ExchangeLeft, exchange_leaves, exchanging, exchange_call}
 use Rattle.elderflute.specs.Flowset.{key_leaves, key_call}
-use Rattle.elderflute.specs.Images.{numbers_read, read_left, read_leaves, ReadSized}
-use Rattle.elderflute.specs.Images.{numbers_opened, listed_opened, OpenLeft, open_left, open_leaves, opening, open_call, OpenSized}
+use Rattle.elderflute.specs.Images.{ReadSized}
+use Rattle.elderflute.specs.Images.{OpenLeft, open_leaves, opening, open_call, OpenSized}
 use Rattle.elderflute.specs.Sessions.{HandLeft, hand_leaves, handing, hand_over_call}
 use Rattle.elderflute.specs.Sessions.{SettleLeft, settle_leaves, settling, settle_call}
 use Rattle.elderflute.specs.Sessions.{Reporting, report_leaves, report_call, printing, print_call}
 
 -- ---- the key of a packet
-pub key-is : {a b : Keyed} (packet key : List ℕ) → a ≡ key_of packet → a ≡ b → key_leaves b key ≡ key_call packet key
+pub key-is : {a b : Option Key} (packet key : List ℕ) → a ≡ key_of packet → a ≡ b → key_leaves b key ≡ key_call packet key
 unfolding key_call
 key-is packet key e f = ap (λ x. key_leaves x key) (sym f ∙ e)
 
 -- ---- reading
-pub read_is : {a b : Reading} {block : ℕ} (slot : ℕ) (numbers : List ℕ) → block ≡ read_block a → a ≡ b
-    → read_left (read_number b) (numbers_read b slot numbers) block ≡ read_leaves a slot numbers
-read_is slot numbers e f = rw (e, f)
-
-pub read-sized : (image : List ℕ) (slot : ℕ) (a : Reading) → a ≡ read_of ipv4_layout image slot → ReadSized a
-read-sized image slot (read.Image z salt) e = (accepted ipv4_layout z salt slot image (sym e)).sizes
-read-sized image slot read.Length e = tt
-read-sized image slot (read.Check n) e = tt
-read-sized image slot (read.Form n) e = tt
-read-sized image slot (read.Mixed n) e = tt
-read-sized image slot read.Stale e = tt
+pub read-sized : (image : List ℕ) (slot : ℕ) (a : Result Image ReadError) → a ≡ read_of ipv4_layout image slot → ReadSized a
+read-sized image slot (Ok i) e = (accepted ipv4_layout i.sizes i.salt slot image (sym e)).sizes
+read-sized image slot (Err x) e = tt
 
 -- ---- opening
-pub open_is : {a b : Opened} {block : ℕ} (numbers : List ℕ) (listed : ℕ) → block ≡ open_block a → a ≡ b
-    → open_left (open_number b) (numbers_opened b numbers) (listed_opened b listed) block ≡ open_leaves a numbers listed
-open_is numbers listed e f = rw (e, f)
-
-pub open-sized : (image : List ℕ) (slot : ℕ) (m : Memory) (a : Opened) {m' : Memory}
+pub open-sized : (image : List ℕ) (slot : ℕ) (m : Memory) (a : Result Session OpenError) {m' : Memory}
     → below.opening a m' ≡ open_of ipv4_layout image slot m → OpenSized a
-open-sized image slot m (opened.Open s) e =
+open-sized image slot m (Ok s) e =
     let d = open_done ipv4_layout image slot m s (ap (λ (x : below.Opening). x.answer) (sym e)) in
     (accepted ipv4_layout s.sizes s.salt slot image d.read_is).sizes
-open-sized image slot m opened.Length e = tt
-open-sized image slot m (opened.Check n) e = tt
-open-sized image slot m (opened.Form n) e = tt
-open-sized image slot m (opened.Mixed n) e = tt
-open-sized image slot m opened.Stale e = tt
-open-sized image slot m opened.BadRoom e = tt
+open-sized image slot m (Err x) e = tt
 
-pub open-call : (image : List ℕ) (slot : ℕ) (numbers : List ℕ) (listed : ℕ) (m : Memory) {a : Opened} {m' : Memory} {left : OpenLeft}
+pub open-call : (image : List ℕ) (slot : ℕ) (numbers : List ℕ) (listed : ℕ) (m : Memory) {a : Result Session OpenError} {m' : Memory} {left : OpenLeft}
     → below.opening a m' ≡ open_of ipv4_layout image slot m → left ≡ open_leaves a numbers listed
     → opening left m' ≡ open_call image slot numbers listed m
 unfolding open_call
@@ -82,21 +66,21 @@ open-call image slot numbers listed m {m' = m'} e f =
 
 -- ---- calls on a session
 module _ (numbers : List ℕ) (listed : ℕ) (m : Memory) {s : Session} (told : s ≡ session_of numbers listed) where
-  pub hand-call : (key : List ℕ) {a : HandOver} {m' : Memory} {left : HandLeft} → calls.handing_to a m' ≡ hand_over ipv4_layout s key m
+  pub hand-call : (key : List ℕ) {a : Result ℕ HandOverError} {m' : Memory} {left : HandLeft} → calls.handing_to a m' ≡ hand_over ipv4_layout s key m
       → left ≡ hand_leaves a listed → handing left m' ≡ hand_over_call numbers listed key m
   unfolding hand_over_call
   hand-call key {m' = m'} e f =
       ap (λ (x : HandLeft). handing x m') f
       ∙ ap (λ (x : calls.Handing). handing (hand_leaves x.answer listed) x.room) (e ∙ ap (λ x. hand_over ipv4_layout x key m) told)
 
-  pub settle-call : (cell : ℕ) {a : Settled} {m' : Memory} {left : SettleLeft} → calls.settling_to a m' ≡ settle_of ipv4_layout s m
+  pub settle-call : (cell : ℕ) {a : Result ℕ SettleError} {m' : Memory} {left : SettleLeft} → calls.settling_to a m' ≡ settle_of ipv4_layout s m
       → left ≡ settle_leaves a listed cell → settling left m' ≡ settle_call numbers listed cell m
   unfolding settle_call
   settle-call cell {m' = m'} e f =
       ap (λ (x : SettleLeft). settling x m') f
       ∙ ap (λ (x : calls.Settling). settling (settle_leaves x.answer listed cell) x.room) (e ∙ ap (λ x. settle_of ipv4_layout x m) told)
 
-  pub report-call : (figures : List ℕ) {a : Reported} {left : Reporting} → a ≡ report_on ipv4_layout s m → left ≡ report_leaves a figures
+  pub report-call : (figures : List ℕ) {a : Result Report SessionError} {left : Reporting} → a ≡ report_on ipv4_layout s m → left ≡ report_leaves a figures
       → left ≡ report_call numbers listed figures m
   unfolding report_call
   report-call figures e f = f ∙ ap (λ x. report_leaves x figures) (e ∙ ap (λ x. report_on ipv4_layout x m) told)

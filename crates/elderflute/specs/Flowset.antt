@@ -1,9 +1,8 @@
 -- The calls of a switch: the key of a packet, start, packet, seal. Each is the call below with its answer as 01's number.
-use Rattle.std.specs.Prelude.{List, ℕ}
+use Rattle.std.specs.Prelude.{Option, None, Some, List, ℕ}
 use Rattle.layout.specs.declared.Sizes.{Sizes}
 use Rattle.layout.specs.Sizes.{ipv4_layout}
-use Rattle.packet.specs.declared.Keyed.{Keyed}
-use Rattle.packet.specs.declared.Keyed.TheVariants.{Flow, Refused}
+use Rattle.packet.specs.declared.Key.{Key}
 use Rattle.packet.specs.Packet.{key_of, number}
 use Rattle.packet.specs.Key.{key_bytes}
 use Rattle.encoder.specs.Encoder.{start_of, start_number, packet_of, take_number}
@@ -18,9 +17,9 @@ abbrev pub keying : ℕ → List ℕ → Keying
 keying number key = record { number = number; key = key }
 
 -- 01 'Keys and hashing': "It yields either a key or refusal 6"
-abbrev pub key_leaves : Keyed → List ℕ → Keying
-key_leaves (Flow flow) key = keying (number (Flow flow)) (key_bytes flow)
-key_leaves Refused key = keying (number Refused) key
+abbrev pub key_leaves : Option Key → List ℕ → Keying
+key_leaves (Some flow) key = keying (number (Some flow)) (key_bytes flow)
+key_leaves None key = keying (number None) key
 
 unfoldable pub key_call : List ℕ → List ℕ → Keying
 key_call packet key = key_leaves (key_of packet) key

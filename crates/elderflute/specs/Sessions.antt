@@ -1,15 +1,14 @@
 -- The calls on a session, hand-over, settle and report, and printing.
-use Rattle.std.specs.Prelude.{cond, not, List, ℕ, eqb, length}
+use Rattle.std.specs.Prelude.{cond, not, List, ℕ, eqb, length, Result, Ok, Err}
 use Rattle.std.proofs.lemmas.List.Edits.{sets}
 use Rattle.layout.specs.Sizes.{in_range, ipv4_layout}
 use Rattle.room.specs.declared.Session.{Session}
 use Rattle.room.specs.Memory.{Memory}
-use Rattle.session.specs.declared.HandOver.{HandOver}
-use Rattle.session.specs.declared.HandOver.TheVariants as over
-use Rattle.session.specs.declared.Settled.{Settled}
-use Rattle.session.specs.declared.Settled.TheVariants as settled
-use Rattle.session.specs.declared.Reported.{Reported}
-use Rattle.session.specs.declared.Reported.TheVariants as reported
+use Rattle.session.specs.declared.HandOverError.{HandOverError}
+use Rattle.session.specs.declared.SettleError.{SettleError}
+use Rattle.session.specs.declared.SettleError.TheVariants as settled
+use Rattle.session.specs.declared.SessionError.{SessionError}
+use Rattle.summary.specs.declared.Report.{Report}
 use Rattle.session.specs.Calls.{hand_over, hand_over_number, settle_of, settle_number, report_on, report_number}
 use Rattle.printing.specs.Print.{most_written, room_lines, printed}
 use Rattle.elderflute.specs.Numbers.{session_of, figures_of}
@@ -29,16 +28,11 @@ pub record Handing : Type 0 where
 abbrev pub handing : HandLeft → Memory → Handing
 handing left room = record { left = left; room = room }
 
-abbrev pub listed_handed : HandOver → ℕ → ℕ
-listed_handed (over.Done n) listed = n
-listed_handed over.NotSession listed = listed
-listed_handed over.NotInFilter listed = listed
-listed_handed over.Listed listed = listed
-listed_handed over.EmptyCell listed = listed
-listed_handed over.TooMany listed = listed
-listed_handed over.BadRoom listed = listed
+abbrev pub listed_handed : Result ℕ HandOverError → ℕ → ℕ
+listed_handed (Ok n) listed = n
+listed_handed (Err e) listed = listed
 
-abbrev pub hand_leaves : HandOver → ℕ → HandLeft
+abbrev pub hand_leaves : Result ℕ HandOverError → ℕ → HandLeft
 hand_leaves a listed = hand_left (hand_over_number a) (listed_handed a listed)
 
 unfoldable pub hand_over_call : List ℕ → ℕ → List ℕ → Memory → Handing
@@ -62,11 +56,10 @@ abbrev pub settling : SettleLeft → Memory → Settling
 settling left room = record { left = left; room = room }
 
 -- 8 and 16 keep both numbers; 14 names a cell, and the earlier steps stand
-abbrev pub settle_leaves : Settled → ℕ → ℕ → SettleLeft
-settle_leaves (settled.Done n) listed cell = settle_left (settle_number (settled.Done n)) n cell
-settle_leaves (settled.Damaged n c) listed cell = settle_left (settle_number (settled.Damaged n c)) n c
-settle_leaves settled.NotSession listed cell = settle_left (settle_number settled.NotSession) listed cell
-settle_leaves settled.BadRoom listed cell = settle_left (settle_number settled.BadRoom) listed cell
+abbrev pub settle_leaves : Result ℕ SettleError → ℕ → ℕ → SettleLeft
+settle_leaves (Ok n) listed cell = settle_left (settle_number (Ok n)) n cell
+settle_leaves (Err (settled.Damaged d)) listed cell = settle_left (settle_number (Err (settled.Damaged d))) d.listed d.cell
+settle_leaves (Err (settled.Session e)) listed cell = settle_left (settle_number (Err (settled.Session e))) listed cell
 
 unfoldable pub settle_call : List ℕ → ℕ → ℕ → Memory → Settling
 settle_call numbers listed cell m =
@@ -80,10 +73,9 @@ pub record Reporting : Type 0 where
 abbrev pub reporting : ℕ → List ℕ → Reporting
 reporting number figures = record { number = number; figures = figures }
 
-abbrev pub report_leaves : Reported → List ℕ → Reporting
-report_leaves (reported.Told t) figures = reporting (report_number (reported.Told t)) (figures_of t)
-report_leaves reported.NotSession figures = reporting (report_number reported.NotSession) figures
-report_leaves reported.BadRoom figures = reporting (report_number reported.BadRoom) figures
+abbrev pub report_leaves : Result Report SessionError → List ℕ → Reporting
+report_leaves (Ok t) figures = reporting (report_number (Ok t)) (figures_of t)
+report_leaves (Err e) figures = reporting (report_number (Err e)) figures
 
 unfoldable pub report_call : List ℕ → ℕ → List ℕ → Memory → Reporting
 report_call numbers listed figures m = report_leaves (report_on ipv4_layout (session_of numbers listed) m) figures
@@ -104,10 +96,9 @@ print_call input lines written =
     (printing 0 (sets lines 0 (printed input)) (length (printed input)))
 
 -- ---- the lines of a session as it stands: the same, by what the report answers and the text of its lines
-abbrev pub lines_leave : Reported → List ℕ → List ℕ → ℕ → Printing
-lines_leave (reported.Told t) text lines written = printing (report_number (reported.Told t)) (sets lines 0 text) (length text)
-lines_leave reported.NotSession text lines written = printing (report_number reported.NotSession) lines written
-lines_leave reported.BadRoom text lines written = printing (report_number reported.BadRoom) lines written
+abbrev pub lines_leave : Result Report SessionError → List ℕ → List ℕ → ℕ → Printing
+lines_leave (Ok t) text lines written = printing (report_number (Ok t)) (sets lines 0 text) (length text)
+lines_leave (Err e) text lines written = printing (report_number (Err e)) lines written
 
 -- in 01's order: sizes (8), room (16: that for the lines, then the session's), the rest of the test of 8; else what 01's printing program prints of a
 -- session: "a line of slot, salt, listed, counted, open and state; then per listed flow, in list order: .."

@@ -8,27 +8,19 @@ ghost use Rattle.layout.specs.Sizes.{Ranged};
 ghost use Rattle.list.specs.Records.{records};
 ghost use Rattle.table.specs.Table.{tab};
 ghost use Rattle.room.specs.Memory.{memory};
-ghost use Rattle.encoder.specs.Encoder.{start_number, take_number};
-ghost use Rattle.sealing.specs.Seal.{seal_number};
-ghost use Rattle.reading.specs.Read.{read_block};
-ghost use Rattle.opening.specs.Open.{open_block};
 ghost use Rattle.elderflute.specs.Numbers.{version_number, sizes_of, session_of, numbers_of, state_number, figures_of};
 ghost use Rattle.elderflute.specs.Flowset.{keying, key_call, working, start_call, packet_call, sealing, seal_call};
 ghost use Rattle.elderflute.specs.Images.{ReadSized, OpenSized, read_left, read_leaves, read_call, open_left, open_leaves, opening, open_call};
 ghost use Rattle.elderflute.specs.Sessions.{hand_left, hand_leaves, handing, hand_over_call, settle_left, settle_leaves, settling, settle_call};
 ghost use Rattle.elderflute.specs.Sessions.{reporting, report_leaves, report_call, printing, print_call, lines_call};
-ghost use Rattle.session.specs.Calls.{report_number};
-ghost use Rattle.elderflute.specs.Exchanges.{exchange_left, exchange_leaves, exchanging, exchange_call};
+ghost use Rattle.elderflute.specs.Exchanges.{told_of, exchange_left, exchange_leaves, exchanging, exchange_call};
 
-use encoder::{Started, Taken};
-use exchange::Exchanged;
+use exchange::{ExchangeError, Lists};
 use layout::Sizes;
-use opening::Opened;
-use packet::Keyed;
-use reading::Reading;
+use opening::OpenError;
+use reading::{Image, ReadError};
 use room::Session;
-use sealing::Sealed;
-use session::{HandOver, Reported, Settled};
+use session::{HandOverError, SessionError, SettleError};
 use summary::{Report, State};
 
 // ---- the version
@@ -82,24 +74,14 @@ fn put_numbers(numbers: &mut [u32; 6], z: Sizes, salt: u32, slot: u32)
 pub extern "C" fn elderflute_key(packet: &[u8], key: &mut [u8; 13]) -> u32
     ensures { keying result key.new ≡ key_call packet.now key.old }
 {
-    let Keyed::Flow(flow) = packet::key_of(packet) else {
+    let Some(flow) = packet::key_of(packet) else {
         return 6;
     };
-    *key = packet::key_bytes(flow);
+    *key = flow.into();
     0
 }
 
 // ---- taking packets
-
-fn start_number(a: Started) -> u32
-    ensures { result ≡ start_number a }
-{
-    match a {
-        Started::Done => 0,
-        Started::BadSizes => 3,
-        Started::BadRoom => 16,
-    }
-}
 
 // Clears working memory.
 #[unsafe(no_mangle)]
@@ -114,18 +96,9 @@ pub extern "C" fn elderflute_start(
     ensures { working result filter.new cells.new
         ≡ start_call (sizes_of kf f k q) filter.old cells.old }
 {
-    start_number(encoder::start(sizes_of(kf, f, k, q), filter, cells))
-}
-
-fn take_number(a: Taken) -> u32
-    ensures { result ≡ take_number a }
-{
-    match a {
-        Taken::Done => 0,
-        Taken::BadSizes => 3,
-        Taken::BadRoom => 16,
-        Taken::NoKey => 6,
-        Taken::Full => 7,
+    match encoder::start(sizes_of(kf, f, k, q), filter, cells) {
+        Ok(()) => 0,
+        Err(e) => e.number(),
     }
 }
 
@@ -144,21 +117,13 @@ pub extern "C" fn elderflute_packet(
     ensures { working result filter.new cells.new
         ≡ packet_call (sizes_of kf f k q) salt packet.now filter.old cells.old }
 {
-    take_number(encoder::packet(sizes_of(kf, f, k, q), salt, filter, cells, packet))
+    match encoder::packet(sizes_of(kf, f, k, q), salt, filter, cells, packet) {
+        Ok(()) => 0,
+        Err(e) => e.number(),
+    }
 }
 
 // ---- images
-
-fn seal_number(a: Sealed) -> u32
-    ensures { result ≡ seal_number a }
-{
-    match a {
-        Sealed::Done => 0,
-        Sealed::BadSizes => 3,
-        Sealed::BadRoom => 16,
-        Sealed::BadZero => 3,
-    }
-}
 
 // Writes the image of working memory.
 #[unsafe(no_mangle)]
@@ -176,38 +141,32 @@ pub extern "C" fn elderflute_seal(
     ensures { sealing result image.new
         ≡ seal_call (sizes_of kf f k q) salt slot filter.now cells.now image.old }
 {
-    seal_number(sealing::seal(sizes_of(kf, f, k, q), salt, slot, filter, cells, image))
-}
-
-fn read_block(a: Reading) -> usize
-    ensures { result ≡ read_block a }
-{
-    match a {
-        Reading::Image(_, _) => 0,
-        Reading::Length => 0,
-        Reading::Check(n) => n,
-        Reading::Form(n) => n,
-        Reading::Mixed(n) => n,
-        Reading::Stale => 0,
+    match sealing::seal(sizes_of(kf, f, k, q), salt, slot, filter, cells, image) {
+        Ok(()) => 0,
+        Err(e) => e.number(),
     }
 }
 
 // Writes what reading answers: the six numbers where an image is read.
-fn put_reading(a: Reading, slot: u32, numbers: &mut [u32; 6], block: &mut usize) -> u32
+fn put_reading(
+    a: Result<Image, ReadError>,
+    slot: u32,
+    numbers: &mut [u32; 6],
+    block: &mut usize,
+) -> u32
     requires { ReadSized a }
     ensures { read_left result numbers.new block.new ≡ read_leaves a slot numbers.old }
 {
-    *block = read_block(a);
     match a {
-        Reading::Image(z, salt) => {
-            put_numbers(numbers, z, salt, slot);
+        Ok(i) => {
+            put_numbers(numbers, i.sizes, i.salt, slot);
+            *block = 0;
             0
         }
-        Reading::Length => 1,
-        Reading::Check(_) => 2,
-        Reading::Form(_) => 3,
-        Reading::Mixed(_) => 4,
-        Reading::Stale => 5,
+        Err(e) => {
+            *block = e.block();
+            e.number()
+        }
     }
 }
 
@@ -226,39 +185,28 @@ pub extern "C" fn elderflute_read(
 
 // ---- a session
 
-fn open_block(a: Opened) -> usize
-    ensures { result ≡ open_block a }
-{
-    match a {
-        Opened::Open(_) => 0,
-        Opened::Length => 0,
-        Opened::Check(n) => n,
-        Opened::Form(n) => n,
-        Opened::Mixed(n) => n,
-        Opened::Stale => 0,
-        Opened::BadRoom => 0,
-    }
-}
-
 // Writes what opening answers: the six numbers and that no flow is listed where an image is opened.
-fn put_opened(a: Opened, numbers: &mut [u32; 6], listed: &mut usize, block: &mut usize) -> u32
+fn put_opened(
+    a: Result<Session, OpenError>,
+    numbers: &mut [u32; 6],
+    listed: &mut usize,
+    block: &mut usize,
+) -> u32
     requires { OpenSized a }
     ensures { open_left result numbers.new listed.new block.new
         ≡ open_leaves a numbers.old listed.old }
 {
-    *block = open_block(a);
     match a {
-        Opened::Open(s) => {
+        Ok(s) => {
             put_numbers(numbers, s.sizes, s.salt, s.slot);
             *listed = s.listed;
+            *block = 0;
             0
         }
-        Opened::Length => 1,
-        Opened::Check(_) => 2,
-        Opened::Form(_) => 3,
-        Opened::Mixed(_) => 4,
-        Opened::Stale => 5,
-        Opened::BadRoom => 16,
+        Err(e) => {
+            *block = e.block();
+            e.number()
+        }
     }
 }
 
@@ -295,20 +243,15 @@ pub extern "C" fn elderflute_open(
 }
 
 // Writes what a hand-over answers.
-fn put_handed(a: HandOver, listed: &mut usize) -> u32
+fn put_handed(a: Result<usize, HandOverError>, listed: &mut usize) -> u32
     ensures { hand_left result listed.new ≡ hand_leaves a listed.old }
 {
     match a {
-        HandOver::Done { listed: n } => {
+        Ok(n) => {
             *listed = n;
             0
         }
-        HandOver::NotSession => 8,
-        HandOver::NotInFilter => 9,
-        HandOver::Listed => 10,
-        HandOver::EmptyCell => 11,
-        HandOver::TooMany => 12,
-        HandOver::BadRoom => 16,
+        Err(e) => e.number(),
     }
 }
 
@@ -355,22 +298,22 @@ pub extern "C" fn elderflute_hand_over(
     put_handed(a, listed)
 }
 
-// Writes what settling answers.
-fn put_settled(a: Settled, listed: &mut usize, cell: &mut usize) -> u32
+// Writes what settling answers; damage found while settling keeps the steps before it.
+fn put_settled(a: Result<usize, SettleError>, listed: &mut usize, cell: &mut usize) -> u32
     ensures { settle_left result listed.new cell.new ≡ settle_leaves a listed.old cell.old }
 {
     match a {
-        Settled::Done { listed: n } => {
+        Ok(n) => {
             *listed = n;
             0
         }
-        Settled::Damaged { listed: n, cell: c } => {
-            *listed = n;
-            *cell = c;
-            14
+        Err(e) => {
+            if let SettleError::Damaged(d) = e {
+                *listed = d.listed;
+                *cell = d.cell;
+            }
+            e.number()
         }
-        Settled::NotSession => 8,
-        Settled::BadRoom => 16,
     }
 }
 
@@ -405,43 +348,48 @@ pub extern "C" fn elderflute_settle(
     put_settled(a, listed, cell)
 }
 
-// Writes what an exchange answers: the answers 12, the switch that stopped it (1 A, 2 B, 0 none) and the cell where it did.
-fn put_exchanged(x: Exchanged, listed: &mut usize, beside: &mut usize, told: &mut [usize; 3]) -> u32
+// Writes what each session lists after an exchange, and the answers 12, the switch that stopped it (1 A, 2 B, 0 none) and the cell where it did.
+fn put_lists(
+    lists: Lists,
+    switch: usize,
+    cell: usize,
+    listed: &mut usize,
+    beside: &mut usize,
+    told: &mut [usize; 3],
+)
+    ensures { (listed.new ≡ lists.a) × (beside.new ≡ lists.b) × (told.new ≡ told_of lists.twelves switch cell) }
+{
+    *listed = lists.a;
+    *beside = lists.b;
+    *told = [lists.twelves, switch, cell];
+}
+
+// Writes what an exchange answers; a 14 keeps the steps before it.
+fn put_exchanged(
+    x: Result<Lists, ExchangeError>,
+    listed: &mut usize,
+    beside: &mut usize,
+    told: &mut [usize; 3],
+) -> u32
     ensures { exchange_left result listed.new beside.new told.new
         ≡ exchange_leaves x listed.old beside.old told.old }
 {
     match x {
-        Exchanged::Done { a, b, twelves } => {
-            *listed = a;
-            *beside = b;
-            *told = [twelves, 0, 0];
+        Ok(lists) => {
+            put_lists(lists, 0, 0, listed, beside, told);
             0
         }
-        Exchanged::DamagedA {
-            cell,
-            a,
-            b,
-            twelves,
-        } => {
-            *listed = a;
-            *beside = b;
-            *told = [twelves, 1, cell];
-            14
+        Err(e) => {
+            if let ExchangeError::Damaged {
+                switch,
+                cell,
+                lists,
+            } = e
+            {
+                put_lists(lists, switch.number(), cell, listed, beside, told);
+            }
+            e.number()
         }
-        Exchanged::DamagedB {
-            cell,
-            a,
-            b,
-            twelves,
-        } => {
-            *listed = a;
-            *beside = b;
-            *told = [twelves, 2, cell];
-            14
-        }
-        Exchanged::NotSession => 8,
-        Exchanged::BadRoom => 16,
-        Exchanged::OtherSlot => 15,
     }
 }
 
@@ -480,6 +428,7 @@ pub extern "C" fn elderflute_exchange(
     put_exchanged(x, listed, beside, told)
 }
 
+// A state as the C interface tells it; no crate below knows these numbers.
 fn state_number(s: State) -> usize
     ensures { result ≡ state_number s }
 {
@@ -500,16 +449,15 @@ fn put_figures(t: Report, figures: &mut [usize; 4])
 }
 
 // Writes what the report answers.
-fn put_report(a: Reported, figures: &mut [usize; 4]) -> u32
+fn put_report(a: Result<Report, SessionError>, figures: &mut [usize; 4]) -> u32
     ensures { reporting result figures.new ≡ report_leaves a figures.old }
 {
     match a {
-        Reported::Told(t) => {
+        Ok(t) => {
             put_figures(t, figures);
             0
         }
-        Reported::NotSession => 8,
-        Reported::BadRoom => 16,
+        Err(e) => e.number(),
     }
 }
 
@@ -556,16 +504,6 @@ pub extern "C" fn elderflute_print(input: &[u8], lines: &mut [u8], written: &mut
     0
 }
 
-fn report_number(a: Reported) -> u32
-    ensures { result ≡ report_number a }
-{
-    match a {
-        Reported::Told(_) => 0,
-        Reported::NotSession => 8,
-        Reported::BadRoom => 16,
-    }
-}
-
 // Writes the lines of a session as it stands: those that the printing program prints of one that it has settled.
 #[unsafe(no_mangle)]
 pub extern "C" fn elderflute_lines(
@@ -596,12 +534,11 @@ pub extern "C" fn elderflute_lines(
     if lines.len() != printing::MOST {
         return 16;
     }
-    let a = session::report(
+    if let Err(e) = session::report(
         s, filter, xors, flows, packets, unknowns, positions, marks, keys, counts, flags,
-    );
-    let Reported::Told(_) = a else {
-        return report_number(a);
-    };
+    ) {
+        return e.number();
+    }
     *written = printing::put_listed(
         lines, s.slot, s.salt, s.listed, xors, flows, packets, keys, counts, flags,
     );

@@ -2,250 +2,207 @@
 // packets, each after how often it is taken (4 bytes) and its length (2). Standard output: the image, or nothing and a line on standard error.
 #![tactic(auto)]
 
-ghost use Rattle.std.specs.Prelude.{◌≤◌, length};
+ghost use Rattle.std.specs.Prelude.{◌≤◌};
+ghost use Rattle.encode.specs.declared.TheConstants.{FILTER, CELLS, IMAGE};
 
-use encoder::{Started, Taken};
-use layout::Sizes;
-use sealing::Sealed;
-use std::io;
+use encoder::{StartError, TakeError};
+use layout::{Shape, Sizes};
+use sealing::SealError;
+use source::Packets;
 use std::io::Write;
+use std::{fmt, io};
 
-// As much of standard input as is read, and room for a filter, for cells and for an image.
+// As much of standard input as is read.
 const ROOM: usize = 65536;
 
-fn complain(said: &mut impl Write, text: &[u8]) -> io::Result<()> {
-    said.write_all(text)
+// The longest filter, cells and image.
+const FILTER: usize = 7680;
+
+const CELLS: usize = 30720;
+
+const IMAGE: usize = 40960;
+
+// What is said of an input, with a refusal's number.
+#[derive(Clone, Copy)]
+enum Trouble {
+    Head,
+    Sizes,
+    Room,
+    Key,
+    Full,
+    CutShort,
+    ZeroByte,
 }
 
-// A byte as a size, and as a part of a number.
-fn wide(b: u8) -> usize
-    ensures { result ≤ 255 }
-{
-    b as usize
+impl fmt::Display for Trouble {
+    fn fmt<W: fmt::Write>(&self, f: &mut fmt::Formatter<W>) -> fmt::Result {
+        f.write_str(match self {
+            Trouble::Head => "want sizes, salt and slot",
+            Trouble::Sizes => "sizes out of range (3)",
+            Trouble::Room => "room (16)",
+            Trouble::Key => "a packet has no key (6)",
+            Trouble::Full => "a counter is full (7)",
+            Trouble::CutShort => "the last packet is cut short",
+            Trouble::ZeroByte => "a zero byte (3)",
+        })
+    }
 }
 
-// The place after the packet whose record begins at `at`, or 0 where there is no whole one.
-fn record_end(input: &[u8], at: usize) -> usize
-    ensures { result ≤ length input.now }
-{
-    if input.len() < at {
-        return 0;
+impl From<StartError> for Trouble {
+    fn from(e: StartError) -> Trouble {
+        Trouble::from(TakeError::from(e))
     }
-    if input.len() - at < 6 {
-        return 0;
-    }
-    let n = wide(input[at + 4]) * 256 + wide(input[at + 5]);
-    if input.len() - at - 6 < n {
-        return 0;
-    }
-    at + 6 + n
 }
 
-// Whether a packet call took the packet, or refused it for the packet's own sake (6, 7), which is said.
-fn is_taken(said: &mut impl Write, t: Taken) -> io::Result<bool> {
-    match t {
-        Taken::Done => Ok(true),
-        Taken::NoKey => {
-            complain(said, b"encode: a packet has no key (6)\n")?;
-            Ok(false)
+impl From<TakeError> for Trouble {
+    fn from(e: TakeError) -> Trouble {
+        match e {
+            TakeError::BadSizes => Trouble::Sizes,
+            TakeError::BadRoom => Trouble::Room,
+            TakeError::NoKey => Trouble::Key,
+            TakeError::Full => Trouble::Full,
         }
-        Taken::Full => {
-            complain(said, b"encode: a counter is full (7)\n")?;
-            Ok(false)
-        }
-        Taken::BadSizes => Ok(false),
-        Taken::BadRoom => Ok(false),
     }
 }
 
-// Takes a packet so many times, or until it is refused.
-fn take_often(
-    said: &mut impl Write,
-    z: Sizes,
-    salt: u32,
-    packet: &[u8],
-    times: u32,
-    filter: &mut [u8],
-    cells: &mut [u8],
-) -> io::Result<()> {
-    let mut left = times;
-    while left > 0 {
-        if !is_taken(said, encoder::packet(z, salt, filter, cells, packet))? {
-            return Ok(());
+impl From<SealError> for Trouble {
+    fn from(e: SealError) -> Trouble {
+        match e {
+            SealError::BadSizes => Trouble::Sizes,
+            SealError::BadRoom => Trouble::Room,
+            SealError::BadZero => Trouble::ZeroByte,
         }
-        left -= 1;
     }
-    Ok(())
 }
 
-// Takes every packet of the input.
-fn take_all(
-    said: &mut impl Write,
-    z: Sizes,
-    salt: u32,
-    input: &[u8],
-    filter: &mut [u8],
-    cells: &mut [u8],
-) -> io::Result<()> {
-    let mut at = 12;
-    while at < input.len() {
-        let next = record_end(input, at);
-        if next < at + 6 {
-            return complain(said, b"encode: the last packet is cut short\n");
-        }
-        let from = at + 6;
-        take_often(
-            said,
-            z,
-            salt,
-            &input[from..next],
-            fields::long_at(input, at),
+// Why there is no image: trouble that is still to be said, or input or output that failed.
+#[derive(Drop)]
+enum Failure {
+    Trouble(Trouble),
+    Io(io::Error),
+}
+
+impl From<Trouble> for Failure {
+    fn from(trouble: Trouble) -> Failure {
+        Failure::Trouble(trouble)
+    }
+}
+
+impl From<io::Error> for Failure {
+    fn from(error: io::Error) -> Failure {
+        Failure::Io(error)
+    }
+}
+
+fn say(said: &mut impl Write, trouble: Trouble) -> io::Result<()> {
+    writeln!(said, "encode: {trouble}")
+}
+
+// How long filter, cells and image are: no longer than the program has room for.
+#[derive(Clone, Copy)]
+struct Lengths {
+    filter: usize,
+    cells: usize,
+    image: usize,
+    ghost within: { (filter ≤ FILTER) × (cells ≤ CELLS) × (image ≤ IMAGE) },
+}
+
+impl TryFrom<Sizes> for Lengths {
+    type Error = Trouble;
+
+    fn try_from(z: Sizes) -> Result<Lengths, Trouble> {
+        let shape = Shape::new(layout::ipv4(), z).ok_or(Trouble::Sizes)?;
+        let filter = shape.filter_bytes();
+        let cells = shape.cell_bytes();
+        let image = shape.block_count() * 512;
+        Ok(Lengths {
             filter,
             cells,
-        )?;
-        at = next;
+            image,
+        })
     }
-    Ok(())
 }
 
-// Seals the flowset and writes the image.
-fn write_image(
-    out: &mut impl Write,
-    said: &mut impl Write,
+// A flowset in working memory, from its start on. Refusals are trouble.
+#[derive(Drop)]
+struct Flowset<'a> {
     z: Sizes,
     salt: u32,
-    slot: u32,
-    filter: &[u8],
-    cells: &[u8],
-    image: &mut [u8],
-) -> io::Result<()> {
-    match sealing::seal(z, salt, slot, filter, cells, image) {
-        Sealed::Done => out.write_all(image),
-        Sealed::BadSizes => complain(said, b"encode: sizes out of range (3)\n"),
-        Sealed::BadRoom => complain(said, b"encode: room (16)\n"),
-        Sealed::BadZero => complain(said, b"encode: a zero byte (3)\n"),
-    }
+    filter: &'a mut [u8],
+    cells: &'a mut [u8],
 }
 
-fn lend_image(
-    out: &mut impl Write,
-    said: &mut impl Write,
-    z: Sizes,
-    salt: u32,
-    slot: u32,
-    filter: &[u8],
-    cells: &[u8],
-    room: &mut [u8],
-    n: usize,
-) -> io::Result<()> {
-    if n <= room.len() {
-        write_image(out, said, z, salt, slot, filter, cells, &mut room[..n])?;
+impl<'a> Flowset<'a> {
+    fn start(
+        z: Sizes,
+        salt: u32,
+        filter: &'a mut [u8],
+        cells: &'a mut [u8],
+    ) -> Result<Flowset<'a>, Trouble> {
+        encoder::start(z, filter, cells)?;
+        Ok(Flowset {
+            z,
+            salt,
+            filter,
+            cells,
+        })
     }
-    Ok(())
-}
 
-// Whether the encoder is started; a refusal is said.
-fn is_started(said: &mut impl Write, s: Started) -> io::Result<bool> {
-    match s {
-        Started::Done => Ok(true),
-        Started::BadSizes => {
-            complain(said, b"encode: sizes out of range (3)\n")?;
-            Ok(false)
+    fn take(&mut self, packet: &[u8]) -> Result<(), Trouble> {
+        let (z, salt) = (self.z, self.salt);
+        Ok(encoder::packet(z, salt, self.filter, self.cells, packet)?)
+    }
+
+    // Takes a packet so many times, or until it is refused for its own sake (6, 7), which is said.
+    fn take_often(&mut self, said: &mut impl Write, packet: &[u8], times: u32) -> io::Result<()> {
+        for _ in 0..times {
+            if let Err(trouble) = self.take(packet) {
+                return say(said, trouble);
+            }
         }
-        Started::BadRoom => {
-            complain(said, b"encode: room (16)\n")?;
-            Ok(false)
+        Ok(())
+    }
+
+    // Takes each packet as often as stands before it.
+    fn take_all(&mut self, said: &mut impl Write, mut packets: Packets<4>) -> io::Result<()> {
+        for (times, packet) in &mut packets {
+            self.take_often(said, packet, u32::from_be_bytes(*times))?;
         }
+        if packets.rest.is_empty() {
+            return Ok(());
+        }
+        say(said, Trouble::CutShort)
+    }
+
+    fn seal(&self, slot: u32, image: &mut [u8]) -> Result<(), Trouble> {
+        let (z, salt) = (self.z, self.salt);
+        Ok(sealing::seal(z, salt, slot, self.filter, self.cells, image)?)
     }
 }
 
-// The calls, in filter and cells of the lengths that the sizes give.
-fn run(
-    out: &mut impl Write,
-    said: &mut impl Write,
-    input: &[u8],
-    z: Sizes,
-    image: usize,
-    filter: &mut [u8],
-    cells: &mut [u8],
-) -> io::Result<()> {
-    if input.len() < 12 {
-        return Ok(());
-    }
-    let salt = fields::long_at(input, 4);
-    let slot = fields::long_at(input, 8);
-    if !is_started(said, encoder::start(z, filter, cells))? {
-        return Ok(());
-    }
-    take_all(said, z, salt, input, filter, cells)?;
-    let mut room = [0u8; ROOM];
-    lend_image(out, said, z, salt, slot, filter, cells, &mut room, image)
-}
-
-fn lend_cells(
-    out: &mut impl Write,
-    said: &mut impl Write,
-    input: &[u8],
-    z: Sizes,
-    image: usize,
-    filter: &mut [u8],
-    room: &mut [u8],
-    n: usize,
-) -> io::Result<()> {
-    if n <= room.len() {
-        run(out, said, input, z, image, filter, &mut room[..n])?;
-    }
+// Writes the image of an input.
+fn encode(out: &mut impl Write, said: &mut impl Write, input: &[u8]) -> Result<(), Failure> {
+    let (head, rest) = input.split_first_chunk::<12>().ok_or(Trouble::Head)?;
+    let z = source::sizes_in(head);
+    let lengths = Lengths::try_from(z)?;
+    let (salt, slot) = (fields::long_at(head, 4), fields::long_at(head, 8));
+    let (mut filter, mut cells, mut image) = ([0u8; FILTER], [0u8; CELLS], [0u8; IMAGE]);
+    let filter = &mut filter[..lengths.filter];
+    let cells = &mut cells[..lengths.cells];
+    let image = &mut image[..lengths.image];
+    let mut flowset = Flowset::start(z, salt, filter, cells)?;
+    flowset.take_all(said, Packets { rest })?;
+    flowset.seal(slot, image)?;
+    out.write_all(image)?;
     Ok(())
-}
-
-fn lend_filter(
-    out: &mut impl Write,
-    said: &mut impl Write,
-    input: &[u8],
-    z: Sizes,
-    image: usize,
-    cells: usize,
-    room: &mut [u8],
-    n: usize,
-) -> io::Result<()> {
-    if n <= room.len() {
-        let mut next = [0u8; ROOM];
-        lend_cells(out, said, input, z, image, &mut room[..n], &mut next, cells)?;
-    }
-    Ok(())
-}
-
-// Makes the image of an input: what is said of it goes to `said`.
-fn encode(out: &mut impl Write, said: &mut impl Write, input: &[u8]) -> io::Result<()> {
-    if input.len() < 12 {
-        return complain(said, b"encode: want sizes, salt and slot\n");
-    }
-    let z = Sizes {
-        kf: wide(input[0]),
-        f: wide(input[1]),
-        k: wide(input[2]),
-        q: wide(input[3]),
-    };
-    if !layout::in_range(z) {
-        return complain(said, b"encode: sizes out of range (3)\n");
-    }
-    let image = layout::block_count(z) * 512;
-    let cells = layout::cell_bytes(layout::ipv4(), z);
-    let mut room = [0u8; ROOM];
-    lend_filter(
-        out,
-        said,
-        input,
-        z,
-        image,
-        cells,
-        &mut room,
-        layout::filter_bytes(z),
-    )
 }
 
 fn main(rt: HostRuntime) -> io::Result<()> {
     let mut input = [0u8; ROOM];
     let n = source::read_full(&mut rt.stdin(), &mut input)?;
-    encode(&mut rt.stdout(), &mut rt.stderr(), &input[..n])
+    match encode(&mut rt.stdout(), &mut rt.stderr(), &input[..n]) {
+        Ok(()) => Ok(()),
+        Err(Failure::Trouble(trouble)) => say(&mut rt.stderr(), trouble),
+        Err(Failure::Io(error)) => Err(error),
+    }
 }

@@ -1,3 +1,2 @@
 -- Laws of how an exchange ends.
-pub mod Over
 pub mod Outcomes

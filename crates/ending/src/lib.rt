@@ -1,78 +1,63 @@
-// How the settlings of an exchange ended, and whether it is over after a round. It rests on peeling for how one settling ended.
+// How the settlings of an exchange end, and whether it is over after a round. It rests on peeling for how one settling ends.
 #![tactic(auto)]
 
-ghost use Rattle.std.specs.Prelude.{◌≡◌};
-ghost use Rattle.peeling.specs.Peel.{listed_at};
-ghost use Rattle.ending.specs.Over.{ending_a, ending_b, round_of, is_over};
+ghost use Rattle.std.specs.Prelude.{◌≡◌, Ok};
+ghost use Rattle.ending.specs.Over.{ending_of, switch_number, is_over};
 
-use peeling::Stop;
+use peeling::Damage;
 
-// How the settlings of both sessions ended: a 14 with the marked or ready cell.
-#[derive(Clone, Copy)]
-pub enum Ending {
-    Settled,
-    DamagedA(usize),
-    DamagedB(usize),
+// The two switches of an exchange.
+#[derive(Clone, Copy, PartialEq, Eq)]
+pub enum Switch {
+    A,
+    B,
 }
 
-// How many flows each session lists, how many keys were answered with 12, and how the settlings ended.
-#[derive(Clone, Copy)]
-pub struct Round {
-    pub a: usize,
-    pub b: usize,
-    pub twelves: usize,
-    pub ending: Ending,
-}
-
-// What stands after A's settling, and after B's.
-pub fn after_a(s: Stop, b: usize, twelves: usize) -> Round
-    ensures { result ≡ round_of (listed_at s) b twelves (ending_a s) }
-{
-    match s {
-        Stop::Done { listed } => Round {
-            a: listed,
-            b,
-            twelves,
-            ending: Ending::Settled,
-        },
-        Stop::Damaged { listed, cell } => Round {
-            a: listed,
-            b,
-            twelves,
-            ending: Ending::DamagedA(cell),
-        },
+impl Switch {
+    // 01's number for it.
+    pub fn number(self) -> usize
+        ensures { result ≡ switch_number self }
+    {
+        match self {
+            Switch::A => 1,
+            Switch::B => 2,
+        }
     }
 }
 
-pub fn after_b(a: usize, s: Stop, twelves: usize) -> Round
-    ensures { result ≡ round_of a (listed_at s) twelves (ending_b s) }
+// A 14 that ends an exchange: the switch whose session it is in, and the marked or ready cell.
+#[derive(Clone, Copy, PartialEq, Eq)]
+pub struct Stopped {
+    pub switch: Switch,
+    pub cell: usize,
+}
+
+// How an exchange goes on where the settling of one switch's session ended so.
+pub fn ending_of(switch: Switch, settled: Result<usize, Damage>) -> Result<(), Stopped>
+    ensures { result ≡ ending_of switch settled }
 {
-    match s {
-        Stop::Done { listed } => Round {
-            a,
-            b: listed,
-            twelves,
-            ending: Ending::Settled,
-        },
-        Stop::Damaged { listed, cell } => Round {
-            a,
-            b: listed,
-            twelves,
-            ending: Ending::DamagedB(cell),
-        },
+    match settled {
+        Ok(_) => Ok(()),
+        Err(damage) => Err(Stopped {
+            switch,
+            cell: damage.cell,
+        }),
     }
 }
 
-// Whether it is over after a round: a 14 ends it, and a round in which neither list grew.
-pub fn is_over(a: usize, b: usize, r: Round) -> bool
-    ensures { result ≡ is_over a b r.a r.b r.ending }
+// Whether it is over after a round that ended so: so many flows were listed before it, and so many are after it.
+#[tactic(auto, unfolding(crate::specs::Over::is_over))]
+pub fn is_over(
+    a: usize,
+    b: usize,
+    listed_a: usize,
+    listed_b: usize,
+    ending: Result<(), Stopped>,
+) -> bool
+    ensures { result ≡ is_over a b listed_a listed_b ending }
 {
-    let ending = r.ending;
-    let Ending::Settled = ending else {
-        return true;
-    };
-    if r.a != a {
-        return false;
+    match ending {
+        Ok(()) => listed_a == a && listed_b == b,
+        Err(_) => true,
     }
-    r.b == b
 }

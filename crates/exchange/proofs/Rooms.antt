@@ -1,7 +1,8 @@
 -- The room that is lent for two sessions: its lengths as facts, and the room of each in it.
 use mathlib.Core.Path.{◌≡◌, ap₂, ◌∙◌}
 use mathlib.Core.Bool.{true, ◌&&◌}
-use Prim.Native.Nat.{◌+◌, ◌^◌}
+use mathlib.Core.List.{List}
+use Prim.Native.Nat.{ℕ, ◌+◌, ◌^◌}
 use native.Mathlib.Omega.{arith}
 use borrow.Author.Tests.{eq-eqb, eqb-true}
 use lib.Dec.{eqb}
@@ -14,11 +15,25 @@ use Rattle.layout.specs.declared.Layout.{Layout}
 use Rattle.layout.specs.declared.Sizes.{Sizes}
 use Rattle.layout.specs.Sizes.{Lays, Ranged}
 use Rattle.marks.specs.Marks.{Words}
+use Rattle.list.specs.Records.{Records}
+use Rattle.table.specs.Table.{Tab}
 use Rattle.room.specs.Memory.{Memory, Rooms}
 use Rattle.parts.specs.declared.Place.{Place}
-use Rattle.parts.specs.Areas.{place_after}
-use Rattle.rounds.specs.Joined.{Full, seam, room_end, joined_table, joined_list}
+use Rattle.parts.specs.Places.{place_after}
+use Rattle.rounds.specs.Joined.{seam, room_end, joined_table, joined_list}
 use Rattle.exchange.specs.Exchange.{areas_fit, room_a, room_b, joined}
+
+-- areas of the lengths that a place gives
+pub record Full (e : Place) (t : Tab) (packets : List ℕ) (rs : Records) : Type 0 where
+  pub xors-full : length t.xors ≡ e.xors
+  pub flows-full : length t.flows ≡ e.cells
+  pub unknowns-full : length t.unknowns ≡ e.cells
+  pub positions-full : length t.positions ≡ e.cells
+  pub marks-full : length t.marks ≡ e.words
+  pub packets-full : length packets ≡ e.cells
+  pub keys-full : length rs.keys ≡ e.keys
+  pub counts-full : length rs.counts ≡ e.records
+  pub flags_full : length rs.flags ≡ e.records
 
 -- every list ends at the place e
 pub record FullRoom (e : Place) (m : Memory) : Type 0 where

@@ -1,54 +1,30 @@
--- The tests of the call, as the code makes them: the places first, then the lengths, then each session.
-use mathlib.Core.Path.{◌≡◌, sym, ap, ap₂, subst, ◌∙◌}
-use mathlib.Core.Bool.{Bool, true, false, cond, ◌&&◌}
-use mathlib.Core.List.{List, [], ◌++◌}
-use Prim.Native.Nat.{ℕ, ◌*◌}
+-- The tests of the call, as the code goes through them.
+use Rattle.std.proofs.Common.{◌≡◌, sym, ap, subst, ◌∙◌, List, replicate, ℕ, ◌*◌, Bool, true, false, ◌&&◌, cond, eqb, Ok, Err, arith}
 use native.Mathlib.Nat.{mul-le-mul}
-use native.Mathlib.Omega.{arith}
-use lib.Dec.{eqb}
-use lib.ListN.{length, take, drop, replicate, length-append, length-drop, length-replicate}
-use lib.Seq.{length-take-le, take_all}
-use Rattle.laws.proofs.Bools.{clash, and_i, and-f}
+use Rattle.laws.proofs.Bools.{and_i, and-f}
 use Rattle.layout.specs.declared.Layout.{Layout}
 use Rattle.layout.specs.declared.Sizes.{Sizes}
 use Rattle.layout.specs.Sizes.{Lays, Ranged, in_range, table_cells, filter_bytes}
-use Rattle.layout.proofs.Ranges.{ranged, table-high, cell-high}
-use Rattle.list.specs.Records.{Records, Room}
+use Rattle.layout.proofs.Ranges.{range-test, table-high, cell-high}
+use Rattle.hash.specs.declared.Placing.{Placing}
+use Rattle.list.specs.Records.{Room}
 use Rattle.table.specs.Table.{Fit}
-use Rattle.test8.specs.Test8.{over_listed, is_session}
 use Rattle.index.specs.Index.{Empty}
 use Rattle.index.proofs.Index.{empty-zeros}
-use Rattle.laws.proofs.Lists.{part-zeros}
+use Rattle.test8.specs.Test8.{over_listed, is_session}
 use Rattle.test8.specs.Given.{seen_upto}
 use Rattle.test8.proofs.Answers as test8
-use Rattle.test8.proofs.Notes.{length_seen}
 use Rattle.room.specs.declared.Session.{Session}
 use Rattle.room.specs.Memory.{Memory, Rooms}
 use Rattle.parts.specs.declared.Place.{Place}
-use Rattle.parts.specs.Areas.{Near, origin, place_after, between, laid, table_at, list_at_place, Inside, areas}
-use Rattle.exchange.specs.declared.Tested.{Tested}
-use Rattle.exchange.specs.declared.Tested.TheVariants as tested
-use Rattle.rounds.specs.Joined.{seam, room_end, Ends}
-use Rattle.exchange.specs.Exchange.{exchange_test, areas_fit, room_a, room_b, seen_in}
-use Rattle.exchange.proofs.Rooms.{FullRoom, areas-full, areas-rooms}
-use Rattle.rounds.proofs.Steps.{first-inside, second-inside}
-use Rattle.exchange.proofs.Call.{table-a, list-a, table-b, list-b, ends, first-index, second-index, second-there}
-use Rattle.exchange.proofs.Tests.{test_of, is_passed, tested-sizes, tested-room, tested-rest, tested-slot, tested-passed}
-
--- no other answer is the one of a call that passes
-pub not-passed : {A : Type 0} {r : Tested} → is_passed r ≡ false → r ≡ tested.Passed → A
-not-passed h q = clash (ap is_passed q) h
-
-pub near-origin : Near origin
-near-origin = record {
-  filter-near = omega arith;
-  cells-near = omega arith;
-  xors-near = omega arith;
-  words-near = omega arith;
-  records-near = omega arith;
-  keys-near = omega arith;
-  seen-near = omega arith;
-}
+use Rattle.parts.specs.Places.{place_after, origin, Near}
+use Rattle.rounds.specs.Joined.{seam, room_end}
+use Rattle.exchange.specs.declared.ExchangeError.TheVariants.{NotSession, BadRoom, OtherSlot}
+use Rattle.exchange.specs.Exchange.{areas_fit, room_a, room_b, seen_in, exchange_test}
+use Rattle.exchange.specs.Passed.{Places, Reaches}
+use Rattle.exchange.proofs.Rooms.{areas-rooms}
+use Rattle.exchange.proofs.Tests.{test_of, tested-room, tested-rest, tested-slot, tested-passed}
+use Rattle.exchange.proofs.Passed.{seam-at, seam-reaches}
 
 pub near-seam : (l : Layout) (y : Sizes) → Lays l → Ranged y → Near (seam l y)
 unfolding place_after filter_bytes
@@ -65,188 +41,111 @@ near-seam l y lays r =
       words-near = omega (arith, n);
       records-near = omega (arith, n);
       keys-near = omega (arith, v);
-      seen-near = omega arith;
     }
 
-module _ (l : Layout) (s t : Session) (m : Memory) (lays : Lays l) where
-  abbrev y : Sizes
-  y = s.sizes
+module _ (p q : Placing) (s t : Session) (m : Memory) (hp : Places p.shape.layout s p) (hq : Places p.shape.layout t q) {o at e : Place}
+    (oi : o ≡ origin) (ai : at ≡ place_after p.shape.layout p.shape.sizes o) (ei : e ≡ place_after q.shape.layout q.shape.sizes at) where
+  abbrev l : Layout
+  l = p.shape.layout
 
-  abbrev z : Sizes
-  z = t.sizes
+  abbrev a : Memory
+  a = room_a (seam l s.sizes) m
 
-  pub sizes-a : in_range y ≡ false → tested.NotSession ≡ exchange_test l s t m
-  sizes-a h = sym (tested-sizes l s t m (ap (λ b. b && in_range z) h))
+  abbrev b : Memory
+  b = room_b (seam l s.sizes) m
 
-  pub sizes-b : in_range z ≡ false → tested.NotSession ≡ exchange_test l s t m
-  sizes-b h = sym (tested-sizes l s t m (ap (λ b. in_range y && b) h ∙ and-f (in_range y)))
+  sizes-both : (in_range s.sizes && in_range t.sizes) ≡ true
+  sizes-both =
+      and_i (in_range s.sizes) (in_range t.sizes) (range-test s.sizes (subst Ranged hp.1 p.shape.ranged)) (range-test t.sizes (subst Ranged hq.1 q.shape.ranged))
 
-  module _ (ry : in_range y ≡ true) (rz : in_range z ≡ true) {o p e : Place} (oi : o ≡ origin) (pi : p ≡ place_after l y o) (ei : e ≡ place_after l z p) where
-    pub seam-at : p ≡ seam l y
-    seam-at = pi ∙ ap (place_after l y) oi
+  seam-is : at ≡ seam l s.sizes
+  seam-is = seam-at l p.shape.sizes ai oi ∙ ap (seam l) hp.1
 
-    pub end-at : e ≡ room_end l y z
-    end-at = ei ∙ ap (place_after l z) seam-at
+  end-at : e ≡ room_end l s.sizes t.sizes
+  end-at = ei ∙ (λ k. place_after (hq.0 k) (hq.1 k) (seam-is k))
 
-    sizes-both : (in_range y && in_range z) ≡ true
-    sizes-both = and_i (in_range y) (in_range z) ry rz
+  pub room-bad : areas_fit e m ≡ false → Err BadRoom ≡ exchange_test l s t m
+  room-bad h = sym (tested-room l s t m sizes-both (ap (λ x. areas_fit x m) (sym end-at) ∙ h))
 
-    pub room-bad : areas_fit e m ≡ false → tested.BadRoom ≡ exchange_test l s t m
-    room-bad h = sym (tested-room l s t m sizes-both (ap (λ q. areas_fit q m) (sym end-at) ∙ h))
+  module _ (fit : areas_fit e m ≡ true) where
+    fits-there : areas_fit (room_end l s.sizes t.sizes) m ≡ true
+    fits-there = ap (λ x. areas_fit x m) (sym end-at) ∙ fit
 
-    module _ (fit : areas_fit e m ≡ true) (seen : List ℕ) (zeros : seen ≡ replicate 22528 0) where
-      long : length seen ≡ 22528
-      long = ap length zeros ∙ length-replicate {A = ℕ} 22528 0
+    pub reaches : Reaches at m
+    reaches = subst (λ x. Reaches x m) (sym seam-is) (seam-reaches l s.sizes t.sizes m fits-there)
 
-      first-zeros : take 11264 seen ≡ replicate 11264 0
-      first-zeros = ap (take 11264) zeros ∙ part-zeros 22528 0 11264 (omega arith)
+    rooms : Rooms l s.sizes a × Rooms l t.sizes b
+    rooms = areas-rooms l s.sizes t.sizes m p.shape.lays (subst Ranged hp.1 p.shape.ranged) (subst Ranged hq.1 q.shape.ranged) fits-there
 
-      second-zeros : drop 11264 seen ≡ replicate 11264 0
-      second-zeros =
-          sym (take_all 11264 (drop 11264 seen) (omega (arith, length-drop 11264 seen, long)))
-          ∙ ap (λ s. take 11264 (drop 11264 s)) zeros ∙ part-zeros 22528 11264 11264 (omega arith)
+    module _ {x y : Memory} (xi : x ≡ room_a at m) (yi : y ≡ room_b at m) where
+      a-is : x ≡ a
+      a-is = xi ∙ ap (λ k. room_a k m) seam-is
 
-      fits-there : areas_fit (room_end l y z) m ≡ true
-      fits-there = ap (λ q. areas_fit q m) (sym end-at) ∙ fit
+      b-is : y ≡ b
+      b-is = yi ∙ ap (λ k. room_b k m) seam-is
 
-      pub full_at : FullRoom e m
-      full_at = areas-full e m fit
-
-      pub rooms-at : Rooms l y (room_a (seam l y) m) × Rooms l z (room_b (seam l y) m)
-      rooms-at = areas-rooms l y z m lays (ranged y ry) (ranged z rz) fits-there
-
-      pub ends_at : (w : List ℕ) → length w ≡ 22528 → Ends l y z p e (areas m.table m.packets m.list w)
-      ends_at w q = ends p m e full_at l y z w lays (ranged y ry) (ranged z rz) seam-at ei q
-
-      abbrev room_of_a : Memory
-      room_of_a = room_a (seam l y) m
-
-      abbrev room_of_b : Memory
-      room_of_b = room_b (seam l y) m
-
-      table-at-a : table_at o p m.table ≡ room_of_a.table
-      table-at-a = ap (λ q. table_at q p m.table) oi ∙ table-a p m ∙ ap (λ q. (room_a q m).table) seam-at
-
-      list-at-a : list_at_place o p m.list ≡ room_of_a.list
-      list-at-a = ap (λ q. list_at_place q p m.list) oi ∙ list-a p m ∙ ap (λ q. (room_a q m).list) seam-at
-
-      table-at-b : table_at p e m.table ≡ room_of_b.table
-      table-at-b = table-b p m e full_at ∙ ap (λ q. (room_b q m).table) seam-at
-
-      list-at-b : list_at_place p e m.list ≡ room_of_b.list
-      list-at-b = list-b p m e full_at ∙ ap (λ q. (room_b q m).list) seam-at
-
-      seam-index : p.seen ≡ 11264
-      unfolding place_after
-      seam-index = omega (arith, ap (λ (q : Place). q.seen) seam-at)
-
-      end-index : e.seen ≡ 22528
-      unfolding place_after
-      end-index = omega (arith, ap (λ (q : Place). q.seen) ei, seam-index)
-
-      none : o.seen ≡ 0
-      none = ap (λ (q : Place). q.seen) oi
-
-      first-half : between o.seen p.seen seen ≡ take 11264 seen
-      first-half = ap₂ (λ i j. between i j seen) none seam-index
-
-      -- what the test of A needs
-      pub need-a : Inside o p m.table m.list seen × Fit l y (table_at o p m.table) × Room l (2 * table_cells l y) (list_at_place o p m.list)
-          × Empty (between o.seen p.seen seen)
-      need-a = (
-        subst (λ q. Inside q p m.table m.list seen) (sym oi) (first-inside (ends_at seen long)),
-        subst (Fit l y) (sym table-at-a) rooms-at.0.table,
-        subst (Room l (2 * table_cells l y)) (sym list-at-a) rooms-at.0.room,
-        subst Empty (sym (first-half ∙ first-zeros)) empty-zeros,
+      -- what the test of each needs
+      pub need-a : {seen : List ℕ} → seen ≡ replicate 11264 0
+          → Fit l p.shape.sizes x.table × Room l (2 * table_cells l p.shape.sizes) x.list × Empty seen
+      need-a zeros = (
+        subst (λ (v : Memory). Fit l p.shape.sizes v.table) (sym a-is) (subst (λ z. Fit l z a.table) (sym hp.1) rooms.0.table),
+        subst (λ (v : Memory). Room l (2 * table_cells l p.shape.sizes) v.list) (sym a-is) (subst (λ z. Room l (2 * table_cells l z) a.list) (sym hp.1) rooms.0.room),
+        subst Empty (sym zeros) empty-zeros,
       )
 
-      is-a : {r : Bool} → r ≡ is_session l y s.salt s.listed (table_at o p m.table) (list_at_place o p m.list) → r ≡ test_of l s room_of_a
-      is-a q = q ∙ ap₂ (is_session l y s.salt s.listed) table-at-a list-at-a
+      pub need-b : {seen : List ℕ} → seen ≡ replicate 11264 0
+          → Fit q.shape.layout q.shape.sizes y.table × Room q.shape.layout (2 * table_cells q.shape.layout q.shape.sizes) y.list × Empty seen
+      need-b zeros = (
+        subst (λ (v : Memory). Fit q.shape.layout q.shape.sizes v.table) (sym b-is)
+            (subst (λ k. Fit k q.shape.sizes b.table) (sym hq.0) (subst (λ z. Fit l z b.table) (sym hq.1) rooms.1.table)),
+        subst (λ (v : Memory). Room q.shape.layout (2 * table_cells q.shape.layout q.shape.sizes) v.list) (sym b-is)
+            (subst (λ k. Room k (2 * table_cells k q.shape.sizes) b.list) (sym hq.0) (subst (λ z. Room l (2 * table_cells l z) b.list) (sym hq.1) rooms.1.room)),
+        subst Empty (sym zeros) empty-zeros,
+      )
 
-      is_b : {r : Bool} → r ≡ is_session l z t.salt t.listed (table_at p e m.table) (list_at_place p e m.list) → r ≡ test_of l t room_of_b
-      is_b q = q ∙ ap₂ (is_session l z t.salt t.listed) table-at-b list-at-b
+      module _ {ra : Bool} (qa : ra ≡ is_session l p.shape.sizes p.salt s.listed x.table x.list) where
+        is-a : ra ≡ test_of l s a
+        is-a = qa ∙ (λ k. is_session l (hp.1 k) (hp.2 k) s.listed (a-is k).table (a-is k).list)
 
-      pub not_a : {r : Bool} → r ≡ is_session l y s.salt s.listed (table_at o p m.table) (list_at_place o p m.list) → r ≡ false
-          → tested.NotSession ≡ exchange_test l s t m
-      not_a q h = sym (tested-rest l s t m sizes-both fits-there (ap (λ b. b && test_of l t room_of_b) (sym (is-a q) ∙ h)))
+        pub not_a : ra ≡ false → Err NotSession ≡ exchange_test l s t m
+        not_a h = sym (tested-rest l s t m sizes-both fits-there (ap (λ v. v && test_of l t b) (sym is-a ∙ h)))
 
-      module _ {ra : Bool} (qa : ra ≡ is_session l y s.salt s.listed (table_at o p m.table) (list_at_place o p m.list)) (ha : ra ≡ true) {seen₁ : List ℕ}
-          (w : seen₁ ≡ laid o.seen p.seen seen (seen_upto l y s.salt (cond (over_listed l y s.listed) 0 s.listed)
-          (between o.keys p.keys m.list.keys) (between o.seen p.seen seen))) where
-        yes-a : test_of l s room_of_a ≡ true
-        yes-a = sym (is-a qa) ∙ ha
+        module _ (ha : ra ≡ true) {rb : Bool} (qb : rb ≡ is_session q.shape.layout q.shape.sizes q.salt t.listed y.table y.list) where
+          yes-a : test_of l s a ≡ true
+          yes-a = sym is-a ∙ ha
 
-        keys-a : between o.keys p.keys m.list.keys ≡ room_of_a.list.keys
-        unfolding list_at_place
-        keys-a = ap (λ (x : Records). x.keys) list-at-a
+          is_b : rb ≡ test_of l t b
+          is_b = qb ∙ (λ k. is_session (hq.0 k) (hq.1 k) (hq.2 k) t.listed (b-is k).table (b-is k).list)
 
-        abbrev index_a : List ℕ
-        index_a = seen_in l s room_of_a (take 11264 seen)
-
-        index-a : seen_upto l y s.salt (cond (over_listed l y s.listed) 0 s.listed) (between o.keys p.keys m.list.keys)
-            (between o.seen p.seen seen)
-            ≡ index_a
-        index-a =
-            ap₂ (λ k v. seen_upto l y s.salt (cond (over_listed l y s.listed) 0 s.listed) k v) keys-a first-half
-            ∙ ap (λ b. seen_upto l y s.salt (cond b 0 s.listed) room_of_a.list.keys (take 11264 seen))
-            (test8.passed l y s.salt s.listed room_of_a.table room_of_a.list yes-a).listed_in
-
-        length-a : length index_a ≡ 11264
-        length-a = length_seen l y s.salt room_of_a.list.keys (take 11264 seen) s.listed ∙ length-take-le 11264 seen (omega (arith, long))
-
-        after-a : seen₁ ≡ index_a ++ drop 11264 seen
-        after-a =
-            w ∙ ap (laid o.seen p.seen seen) index-a ∙ ap₂ (λ i j. laid i j seen index_a) none seam-index ∙ first-index index_a seen [] long length-a
-
-        long-a : length seen₁ ≡ 22528
-        long-a = ap length after-a ∙ length-append index_a (drop 11264 seen) ∙ omega (arith, length-a, length-drop 11264 seen, long)
-
-        second-half : between p.seen e.seen seen₁ ≡ drop 11264 seen
-        second-half = (λ k. between (seam-index k) (end-index k) (after-a k)) ∙ second-there index_a seen [] long length-a
-
-        -- what the test of B needs
-        pub need-b : Inside p e m.table m.list seen₁ × Fit l z (table_at p e m.table) × Room l (2 * table_cells l z) (list_at_place p e m.list)
-            × Empty (between p.seen e.seen seen₁)
-        need-b = (
-          second-inside (ends_at seen₁ long-a),
-          subst (Fit l z) (sym table-at-b) rooms-at.1.table,
-          subst (Room l (2 * table_cells l z)) (sym list-at-b) rooms-at.1.room,
-          subst Empty (sym (second-half ∙ second-zeros)) empty-zeros,
-        )
-
-        module _ {rb : Bool} (qb : rb ≡ is_session l z t.salt t.listed (table_at p e m.table) (list_at_place p e m.list)) where
-          pub not-b : rb ≡ false → tested.NotSession ≡ exchange_test l s t m
-          not-b h = sym (tested-rest l s t m sizes-both fits-there (ap (λ b. test_of l s room_of_a && b) (sym (is_b qb) ∙ h) ∙ and-f (test_of l s room_of_a)))
+          pub not-b : rb ≡ false → Err NotSession ≡ exchange_test l s t m
+          not-b h = sym (tested-rest l s t m sizes-both fits-there (ap (λ v. test_of l s a && v) (sym is_b ∙ h) ∙ and-f (test_of l s a)))
 
           module _ (hb : rb ≡ true) where
-            yes-b : test_of l t room_of_b ≡ true
-            yes-b = sym (is_b qb) ∙ hb
+            yes-b : test_of l t b ≡ true
+            yes-b = sym is_b ∙ hb
 
-            both : (test_of l s room_of_a && test_of l t room_of_b) ≡ true
-            both = and_i (test_of l s room_of_a) (test_of l t room_of_b) yes-a yes-b
+            both : (test_of l s a && test_of l t b) ≡ true
+            both = and_i (test_of l s a) (test_of l t b) yes-a yes-b
 
-            pub other-slot : eqb s.slot t.slot ≡ false → tested.OtherSlot ≡ exchange_test l s t m
+            pub other-slot : eqb s.slot t.slot ≡ false → Err OtherSlot ≡ exchange_test l s t m
             other-slot h = sym (tested-slot l s t m sizes-both fits-there both h)
 
-            pub all-passed : eqb s.slot t.slot ≡ true → tested.Passed ≡ exchange_test l s t m
+            pub all-passed : eqb s.slot t.slot ≡ true → Ok tt ≡ exchange_test l s t m
             all-passed h = sym (tested-passed l s t m sizes-both fits-there both h)
 
-            keys-b : between p.keys e.keys m.list.keys ≡ room_of_b.list.keys
-            unfolding list_at_place
-            keys-b = ap (λ (x : Records). x.keys) list-at-b
+            -- the indexes have got each listed key
+            pub index-a : {seen new : List ℕ} → seen ≡ replicate 11264 0
+                → new ≡ seen_upto l p.shape.sizes p.salt (cond (over_listed l p.shape.sizes s.listed) 0 s.listed) x.list.keys seen
+                → new ≡ seen_in l s a (replicate 11264 0)
+            index-a zeros w =
+                w ∙ (λ k. seen_upto l (hp.1 k) (hp.2 k) (cond (over_listed l (hp.1 k) s.listed) 0 s.listed) (a-is k).list.keys (zeros k))
+                ∙ ap (λ v. seen_upto l s.sizes s.salt (cond v 0 s.listed) a.list.keys (replicate 11264 0))
+                (test8.passed l s.sizes s.salt s.listed a.table a.list yes-a).listed_in
 
-            pub index-both : {seen₂ : List ℕ}
-                → seen₂ ≡ laid p.seen e.seen seen₁ (seen_upto l z t.salt (cond (over_listed l z t.listed) 0 t.listed)
-                (between p.keys e.keys m.list.keys) (between p.seen e.seen seen₁))
-                → seen₂ ≡ seen_in l s room_of_a (replicate 11264 0) ++ seen_in l t room_of_b (replicate 11264 0)
-            index-both q =
-                let new : seen_upto l z t.salt (cond (over_listed l z t.listed) 0 t.listed) (between p.keys e.keys m.list.keys)
-                (between p.seen e.seen seen₁)
-                ≡ seen_in l t room_of_b (drop 11264 seen) =
-                ap₂ (λ k v. seen_upto l z t.salt (cond (over_listed l z t.listed) 0 t.listed) k v) keys-b second-half
-                ∙ ap (λ b. seen_upto l z t.salt (cond b 0 t.listed) room_of_b.list.keys (drop 11264 seen))
-                (test8.passed l z t.salt t.listed room_of_b.table room_of_b.list yes-b).listed_in in
-                q ∙ ap (laid p.seen e.seen seen₁) new
-                ∙ (λ k. laid (seam-index k) (end-index k) (after-a k) (seen_in l t room_of_b (drop 11264 seen)))
-                ∙ second-index index_a seen (seen_in l t room_of_b (drop 11264 seen)) long length-a
-                ∙ ap₂ (λ u v. seen_in l s room_of_a u ++ seen_in l t room_of_b v) first-zeros second-zeros
+            pub index-b : {seen new : List ℕ} → seen ≡ replicate 11264 0
+                → new ≡ seen_upto q.shape.layout q.shape.sizes q.salt (cond (over_listed q.shape.layout q.shape.sizes t.listed) 0 t.listed) y.list.keys seen
+                → new ≡ seen_in l t b (replicate 11264 0)
+            index-b zeros w =
+                w ∙ (λ k. seen_upto (hq.0 k) (hq.1 k) (hq.2 k) (cond (over_listed (hq.0 k) (hq.1 k) t.listed) 0 t.listed) (b-is k).list.keys (zeros k))
+                ∙ ap (λ v. seen_upto l t.sizes t.salt (cond v 0 t.listed) b.list.keys (replicate 11264 0))
+                (test8.passed l t.sizes t.salt t.listed b.table b.list yes-b).listed_in

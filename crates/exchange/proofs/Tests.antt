@@ -10,9 +10,9 @@ use Rattle.test8.specs.Test8.{is_session}
 use Rattle.room.specs.declared.Session.{Session}
 use Rattle.room.specs.Memory.{Memory}
 use Rattle.rounds.specs.Joined.{seam, room_end}
-use Rattle.exchange.specs.Exchange.{areas_fit, room_a, room_b, exchange_test}
-use Rattle.exchange.specs.declared.Tested.{Tested}
-use Rattle.exchange.specs.declared.Tested.TheVariants as tested
+use Rattle.std.specs.Prelude.{Ok, Err}
+use Rattle.exchange.specs.declared.ExchangeError.TheVariants.{NotSession, BadRoom, OtherSlot}
+use Rattle.exchange.specs.Exchange.{Tested, areas_fit, room_a, room_b, exchange_test}
 
 -- the test of 8 of a session in its room
 abbrev pub test_of : Layout → Session → Memory → Bool
@@ -28,10 +28,8 @@ pub record Passing (l : Layout) (s t : Session) (m : Memory) : Type 0 where
   pub slots : eqb s.slot t.slot ≡ true
 
 abbrev pub is_passed : Tested → Bool
-is_passed tested.Passed = true
-is_passed tested.NotSession = false
-is_passed tested.BadRoom = false
-is_passed tested.OtherSlot = false
+is_passed (Ok done) = true
+is_passed (Err e) = false
 
 module _ (l : Layout) (s t : Session) (m : Memory) where
   abbrev sizes : Bool
@@ -46,28 +44,28 @@ module _ (l : Layout) (s t : Session) (m : Memory) where
   abbrev in_b : Bool
   in_b = test_of l t (room_b (seam l s.sizes) m)
 
-  pub tested-sizes : sizes ≡ false → exchange_test l s t m ≡ tested.NotSession
+  pub tested-sizes : sizes ≡ false → exchange_test l s t m ≡ Err NotSession
   unfolding exchange_test
   tested-sizes y = rw y
 
-  pub tested-room : sizes ≡ true → fit ≡ false → exchange_test l s t m ≡ tested.BadRoom
+  pub tested-room : sizes ≡ true → fit ≡ false → exchange_test l s t m ≡ Err BadRoom
   unfolding exchange_test
   tested-room y f = rw (y, f)
 
-  pub tested-rest : sizes ≡ true → fit ≡ true → (in_a && in_b) ≡ false → exchange_test l s t m ≡ tested.NotSession
+  pub tested-rest : sizes ≡ true → fit ≡ true → (in_a && in_b) ≡ false → exchange_test l s t m ≡ Err NotSession
   unfolding exchange_test
   tested-rest y f r = rw (y, f, r)
 
-  pub tested-slot : sizes ≡ true → fit ≡ true → (in_a && in_b) ≡ true → eqb s.slot t.slot ≡ false → exchange_test l s t m ≡ tested.OtherSlot
+  pub tested-slot : sizes ≡ true → fit ≡ true → (in_a && in_b) ≡ true → eqb s.slot t.slot ≡ false → exchange_test l s t m ≡ Err OtherSlot
   unfolding exchange_test
   tested-slot y f r e = rw (y, f, r, e)
 
-  pub tested-passed : sizes ≡ true → fit ≡ true → (in_a && in_b) ≡ true → eqb s.slot t.slot ≡ true → exchange_test l s t m ≡ tested.Passed
+  pub tested-passed : sizes ≡ true → fit ≡ true → (in_a && in_b) ≡ true → eqb s.slot t.slot ≡ true → exchange_test l s t m ≡ Ok tt
   unfolding exchange_test
   tested-passed y f r e = rw (y, f, r, e)
 
   -- it does not answer both Passed and another
-  other : {A : Type 0} {r : Tested} → exchange_test l s t m ≡ tested.Passed → exchange_test l s t m ≡ r → is_passed r ≡ false → A
+  other : {A : Type 0} {r : Tested} → exchange_test l s t m ≡ Ok tt → exchange_test l s t m ≡ r → is_passed r ≡ false → A
   other h e f = clash (ap is_passed h) (ap is_passed e ∙ f)
 
   passing : sizes ≡ true → fit ≡ true → (in_a && in_b) ≡ true → eqb s.slot t.slot ≡ true → Passing l s t m
@@ -81,7 +79,7 @@ module _ (l : Layout) (s t : Session) (m : Memory) where
         slots = e;
       }
 
-  pub passed : exchange_test l s t m ≡ tested.Passed → Passing l s t m
+  pub passed : exchange_test l s t m ≡ Ok tt → Passing l s t m
   passed h =
       elim (split sizes) [
         | inr y ↦ other h (tested-sizes y) refl

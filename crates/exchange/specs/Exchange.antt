@@ -1,5 +1,5 @@
 -- The call of the exchange: its tests, its room and its answers: 01 'A session', "Exchange of A and B", and the table of numbers.
-use Rattle.std.specs.Prelude.{Bool, not, cond, ◌&&◌, List, ◌++◌, ℕ, eqb, length, replicate, take, drop}
+use Rattle.std.specs.Prelude.{Bool, not, cond, ◌&&◌, List, ◌++◌, ℕ, eqb, length, replicate, take, drop, Result, Ok, Err, ⊤}
 use Rattle.layout.specs.declared.Layout.{Layout}
 use Rattle.layout.specs.Sizes.{in_range}
 use Rattle.layout.specs.Numbers.{Returned, only, with_twelves, with_switch}
@@ -11,14 +11,12 @@ use Rattle.room.specs.declared.Session.{Session}
 use Rattle.room.specs.Memory.{Memory, memory}
 use Rattle.parts.specs.declared.Place.{Place}
 use Rattle.parts.specs.Sides.{Side, side}
-use Rattle.ending.specs.declared.Ending.{Ending}
-use Rattle.ending.specs.declared.Ending.TheVariants as end
+use Rattle.ending.specs.Over.{Ending, switch_number}
 use Rattle.rounds.specs.Rounds.{pair, Ended, exchange_sides}
 use Rattle.rounds.specs.Joined.{switch_of, seam, room_end, joined_table, joined_list}
-use Rattle.exchange.specs.declared.Tested.{Tested}
-use Rattle.exchange.specs.declared.Tested.TheVariants as tested
-use Rattle.exchange.specs.declared.Exchanged.{Exchanged}
-use Rattle.exchange.specs.declared.Exchanged.TheVariants as exchanged
+use Rattle.exchange.specs.declared.Lists.{Lists}
+use Rattle.exchange.specs.declared.ExchangeError.{ExchangeError}
+use Rattle.exchange.specs.declared.ExchangeError.TheVariants.{NotSession, BadRoom, OtherSlot, Damaged}
 
 -- 01's table of numbers, 16: "lent room of the wrong length": none is
 unfoldable pub areas_fit : Place → Memory → Bool
@@ -49,6 +47,13 @@ room_b p m =
 unfoldable pub joined : Memory → Memory → Memory
 joined a b = memory (a.filter ++ b.filter) (joined_table a.table b.table) (a.packets ++ b.packets) (joined_list a.list b.list)
 
+-- what an exchange answers: what each session then lists, or why not
+abbrev pub Exchanged : Type 0
+Exchanged = Result Lists ExchangeError
+
+abbrev pub lists_of : ℕ → ℕ → ℕ → Lists
+lists_of a b twelves = record { a = a; b = b; twelves = twelves }
+
 pub record Exchanging : Type 0 where
   pub answer : Exchanged
   pub room : Memory
@@ -58,9 +63,8 @@ exchanging answer m = record { answer = answer; room = m }
 
 -- how it ended, with the flows that each then lists and the answers 12
 abbrev pub answer_of : Ending → ℕ → ℕ → ℕ → Exchanged
-answer_of end.Settled a b twelves = exchanged.Done a b twelves
-answer_of (end.DamagedA c) a b twelves = exchanged.DamagedA c a b twelves
-answer_of (end.DamagedB c) a b twelves = exchanged.DamagedB c a b twelves
+answer_of (Ok done) a b twelves = Ok (lists_of a b twelves)
+answer_of (Err d) a b twelves = Err (Damaged d.switch d.cell (lists_of a b twelves))
 
 -- a session that passed the test, with each listed key in its index
 abbrev pub seen_in : Layout → Session → Memory → List ℕ → List ℕ
@@ -77,23 +81,25 @@ leaves a b e =
     let p = e.pair in
     exchanging (answer_of e.ending p.a.listed p.b.listed p.twelves) (joined (room_left a p.a) (room_left b p.b))
 
+-- what the tests of the call answer
+abbrev pub Tested : Type 0
+Tested = Result ⊤ ExchangeError
+
 -- 01's table of numbers: sizes of either (8), lengths (16), the rest of the test of 8 of either, two different slots (15)
 unfoldable pub exchange_test : Layout → Session → Session → Memory → Tested
 exchange_test l s t m =
     let a = room_a (seam l s.sizes) m in
     let b = room_b (seam l s.sizes) m in
-    cond (not (in_range s.sizes && in_range t.sizes)) tested.NotSession
-    (cond (not (areas_fit (room_end l s.sizes t.sizes) m)) tested.BadRoom
+    cond (not (in_range s.sizes && in_range t.sizes)) (Err NotSession)
+    (cond (not (areas_fit (room_end l s.sizes t.sizes) m)) (Err BadRoom)
     (cond (not (is_session l s.sizes s.salt s.listed a.table a.list
-    && is_session l t.sizes t.salt t.listed b.table b.list)) tested.NotSession
-    (cond (not (eqb s.slot t.slot)) tested.OtherSlot tested.Passed)))
+    && is_session l t.sizes t.salt t.listed b.table b.list)) (Err NotSession)
+    (cond (not (eqb s.slot t.slot)) (Err OtherSlot) (Ok tt))))
 
 -- 01's table of numbers, 8, 15 and 16: "all memory kept"
 unfoldable pub after_test : Layout → Session → Session → Memory → Tested → Exchanging
-after_test l s t m tested.NotSession = exchanging exchanged.NotSession m
-after_test l s t m tested.BadRoom = exchanging exchanged.BadRoom m
-after_test l s t m tested.OtherSlot = exchanging exchanged.OtherSlot m
-after_test l s t m tested.Passed =
+after_test l s t m (Err e) = exchanging (Err e) m
+after_test l s t m (Ok done) =
     let a = room_a (seam l s.sizes) m in
     let b = room_b (seam l s.sizes) m in
     leaves a b (exchange_sides l (switch_of s) a.filter (switch_of t) b.filter (pair (side_of l s a) (side_of l t b) 0))
@@ -102,13 +108,18 @@ unfoldable pub exchange_of : Layout → Session → Session → Memory → Excha
 exchange_of l s t m = after_test l s t m (exchange_test l s t m)
 
 -- 01's number and values for each answer
+abbrev pub error_returns : ExchangeError → Returned
+error_returns NotSession = only 8
+error_returns OtherSlot = only 15
+error_returns BadRoom = only 16
+error_returns (Damaged switch c lists) = with_switch 14 (switch_number switch) c lists.twelves
+
 abbrev pub exchange_returns : Exchanged → Returned
-exchange_returns (exchanged.Done a b twelves) = with_twelves 0 twelves
-exchange_returns (exchanged.DamagedA c a b twelves) = with_switch 14 1 c twelves
-exchange_returns (exchanged.DamagedB c a b twelves) = with_switch 14 2 c twelves
-exchange_returns exchanged.NotSession = only 8
-exchange_returns exchanged.OtherSlot = only 15
-exchange_returns exchanged.BadRoom = only 16
+exchange_returns (Ok lists) = with_twelves 0 lists.twelves
+exchange_returns (Err e) = error_returns e
+
+abbrev pub error_number : ExchangeError → ℕ
+error_number e = (error_returns e).number
 
 abbrev pub exchange_number : Exchanged → ℕ
 exchange_number a = (exchange_returns a).number

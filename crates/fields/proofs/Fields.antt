@@ -1,15 +1,16 @@
 -- A number written is read back, and a field beside it is as it was, at any width.
 use mathlib.Core.Path.{◌≡◌, sym, ap, ◌∙◌}
-use mathlib.Core.List.{List}
+use mathlib.Core.List.{List, [], ◌∷◌, ◌++◌}
 use mathlib.Core.Logic.{◌⊎◌, inl, inr}
 use native.Mathlib.Nat.{div-one}
-use Prim.Native.Nat.{ℕ, suc, ◌+◌, ◌*◌, ◌^◌, ◌<◌, ◌≤◌, ◌/◌, ◌%◌}
+use Prim.Native.Nat.{ℕ, ◌+◌, ◌*◌, ◌^◌, ◌<◌, ◌≤◌}
 use native.Mathlib.Omega.{arith}
-use lib.ListN.{length, get_or, set, take, drop}
+use lib.ListN.{length, get_or, take, drop}
 use lib.Seq.{sets, length-sets}
+use Rattle.std.specs.Int.{w16, w32, from_be_bytes, to_be_bytes}
 use Rattle.laws.specs.BigEndian.{bytes_of, number_of, Bytes}
 use Rattle.laws.proofs.BigEndian.{length-bytes, number-bytes, part-lt, part-add, part-suc, part-one}
-use Rattle.laws.proofs.Lists.{part-sets-same, part-sets-other, sets-before, sets-after}
+use Rattle.laws.proofs.Lists.{part-sets-same, part-sets-other, sets-before, sets-after, lent-sets}
 use Rattle.fields.specs.Field.{field, with_field}
 
 pub length-with : (n : ℕ) (s : List ℕ) (at x : ℕ) → length (with_field n s at x) ≡ length s
@@ -41,7 +42,7 @@ pub field_lt : (n : ℕ) (s : List ℕ) (at : ℕ) → Bytes s → field n s at 
 unfolding field
 field_lt n s at b = part-lt n at s b
 
--- the code's ways to read
+-- the bytes that are read, and those that are written
 pub short-is : (s : List ℕ) (at : ℕ) → at + 2 ≤ length s → get_or s at 0 * 256 + get_or s (at + 1) 0 ≡ field 2 s at
 unfolding field
 short-is s at h = sym (part-suc 1 at s h ∙ ap (λ y. get_or s at 0 * 256 ^ 1 + y) (part-one (at + 1) s (omega arith)))
@@ -50,21 +51,37 @@ pub long-is : (s : List ℕ) (at : ℕ) → at + 4 ≤ length s → field 2 s at
 unfolding field
 long-is s at h = sym (part-add 2 2 at s h)
 
--- and to write
-pub short-put : (s : List ℕ) (at x : ℕ) → set (set s at (x / 256 % 256)) (at + 1) (x % 256) ≡ with_field 2 s at x
-unfolding with_field bytes_of
-short-put s at x =
-    let e : at + 1 ≡ suc at = omega arith in
-    rw (e, div-one x)
+pub short-bytes : (s : List ℕ) (at : ℕ) → at + 2 ≤ length s → from_be_bytes w16 (get_or s at 0 ∷ get_or s (at + 1) 0 ∷ []) ≡ field 2 s at
+short-bytes s at h = short-is s at h
 
-pub long-put : (s : List ℕ) (at x : ℕ)
-    → set (set (set (set s at (x / 16777216 % 256)) (at + 1) (x / 65536 % 256)) (at + 2) (x / 256 % 256)) (at + 3) (x % 256) ≡ with_field 4 s at x
-unfolding with_field bytes_of
-long-put s at x =
-    let e : at + 1 ≡ suc at = omega arith in
-    let f : at + 2 ≡ suc (suc at) = omega arith in
-    let g : at + 3 ≡ suc (suc (suc at)) = omega arith in
-    rw (e, f, g, div-one x)
+pub long-bytes : (s : List ℕ) (at : ℕ) → at + 4 ≤ length s
+    → from_be_bytes w32 (get_or s at 0 ∷ get_or s (at + 1) 0 ∷ get_or s (at + 2) 0 ∷ get_or s (at + 3) 0 ∷ []) ≡ field 4 s at
+long-bytes s at h =
+    let e : at + 2 + 1 ≡ at + 3 = omega arith in
+    omega (arith, long-is s at h, short-is s at (omega arith), rw e at (short-is s (at + 2) (omega arith)))
+
+-- and to write
+short-all : (x : ℕ) → to_be_bytes w16 x ≡ bytes_of 2 x
+unfolding bytes_of
+short-all x = rw (div-one x)
+
+long-all : (x : ℕ) → to_be_bytes w32 x ≡ bytes_of 4 x
+unfolding bytes_of
+long-all x = rw (div-one x)
+
+pub short-put : (s : List ℕ) (at x : ℕ) {k : ℕ} {new bytes : List ℕ} → at + 2 ≤ length s → k ≡ 2 → bytes ≡ to_be_bytes w16 x → new ≡ bytes
+    → take at s ++ (new ++ drop k (drop at s)) ≡ with_field 2 s at x
+unfolding with_field
+short-put s at x {k} {new} h e f g =
+    let all : new ≡ bytes_of 2 x = g ∙ f ∙ short-all x in
+    rw all (lent-sets (bytes_of 2 x) s at k (length-bytes 2 x ∙ sym e) (omega (arith, e)))
+
+pub long-put : (s : List ℕ) (at x : ℕ) {k : ℕ} {new bytes : List ℕ} → at + 4 ≤ length s → k ≡ 4 → bytes ≡ to_be_bytes w32 x → new ≡ bytes
+    → take at s ++ (new ++ drop k (drop at s)) ≡ with_field 4 s at x
+unfolding with_field
+long-put s at x {k} {new} h e f g =
+    let all : new ≡ bytes_of 4 x = g ∙ f ∙ long-all x in
+    rw all (lent-sets (bytes_of 4 x) s at k (length-bytes 4 x ∙ sym e) (omega (arith, e)))
 
 -- one byte is a number
 pub byte-is : (s : List ℕ) (at : ℕ) → at < length s → field 1 s at ≡ get_or s at 0

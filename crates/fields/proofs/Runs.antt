@@ -3,10 +3,9 @@ use mathlib.Core.Path.{◌≡◌, refl, sym, ap, ◌∙◌}
 use mathlib.Core.List.{List, [], ◌∷◌, ◌++◌, append-nil}
 use Prim.Native.Nat.{ℕ, zero, suc, ◌+◌, ◌<◌, ◌≤◌}
 use native.Mathlib.Nat.{le_of_suc-le-suc}
-use native.Mathlib.Numerals.{add-one}
 use native.Mathlib.Omega.{arith}
 use lib.Bits.{bit_xor}
-use lib.ListN.{length, get_or, set, take, drop, replicate, length-set, drop_of_length-le}
+use lib.ListN.{length, get_or, set, take, drop, drop_of_length-le}
 use lib.Seq.{take_all}
 use Rattle.laws.specs.Xor.{xor_bytes}
 use Rattle.laws.proofs.Lists.{length_part, lent-sets}
@@ -42,29 +41,3 @@ part-xored s bytes at {k} {new} h q f =
     let new_is : new ≡ xor_bytes part bytes = f ∙ ap (λ m. xor_bytes (take m (drop at s)) bytes) q in
     let e = xor_bytes-length part bytes (length bytes) (length_part s at (length bytes) h) refl in
     rw new_is (lent-sets (xor_bytes part bytes) s at k (e ∙ sym q) (omega (arith, q, h)))
-
--- the first k bytes copied
-pub copy-turn : (k : ℕ) (s bytes : List ℕ) → k < length s → k < length bytes
-    → set (take k bytes ++ drop k s) k (get_or bytes k 0) ≡ take (suc k) bytes ++ drop (suc k) s
-copy-turn k [] bytes p q = absurd (omega arith)
-copy-turn k (x ∷ s) [] p q = absurd (omega arith)
-copy-turn zero (x ∷ s) (y ∷ bytes) p q = refl
-copy-turn (suc k) (x ∷ s) (y ∷ bytes) p q = ap (y ∷◌) (copy-turn k s bytes (le_of_suc-le-suc p) (le_of_suc-le-suc q))
-
-pub clear-turn : (k : ℕ) (s : List ℕ) → k < length s → set (replicate k 0 ++ drop k s) k 0 ≡ replicate (suc k) 0 ++ drop (suc k) s
-clear-turn k [] p = absurd (omega arith)
-clear-turn zero (x ∷ s) p = refl
-clear-turn (suc k) (x ∷ s) p = ap (0 ∷◌) (clear-turn k s (le_of_suc-le-suc p))
-
--- clearing, of elements of any width: after i turns the first i are 0
-abbrev pub Cleared : List ℕ → List ℕ → ℕ → Type 0
-Cleared s₀ s i = (length s ≡ length s₀) × (i ≤ length s₀) × (s ≡ replicate i 0 ++ drop i s₀)
-
-pub cleared-turn : (s₀ : List ℕ) {s : List ℕ} {i : ℕ} → i < length s₀ → Cleared s₀ s i → Cleared s₀ (set s i 0) (i + 1)
-cleared-turn s₀ {s} {i} h c =
-    (length-set s i 0 ∙ c.0, omega arith, rw (add-one, c.2) (clear-turn i s₀ h))
-
-pub cleared-all : (s₀ : List ℕ) {s : List ℕ} {i : ℕ} → length s₀ ≤ i → Cleared s₀ s i → s ≡ replicate (length s₀) 0
-cleared-all s₀ {s} {i} h c =
-    let e : i ≡ length s₀ = omega (arith, c.1) in
-    c.2 ∙ rw (drop_of_length-le s₀ h, e) (append-nil (replicate (length s₀) 0))

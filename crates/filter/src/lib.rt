@@ -7,35 +7,30 @@ ghost use Rattle.filter.specs.Filter.{is_set, with_bit, any_clear, with_bits, In
 use hash::Bits;
 
 // Whether filter bit n is 1.
+#[tactic(auto, unfolding(crate::specs::Filter::is_set))]
 fn bit_is_set(filter: &[u8], n: usize) -> bool
     requires { n / 8 < length filter.now }
     ensures { result ≡ is_set filter.now n }
 {
-    (filter[n / 8] & (128u8 >> (n % 8))) != 0
+    filter[n / 8] & (128 >> (n % 8)) != 0
 }
 
 // Sets filter bit n.
+#[tactic(auto, unfolding(crate::specs::Filter::with_bit))]
 fn set_bit(filter: &mut [u8], n: usize)
     requires { n / 8 < length filter.old }
     ensures { filter.new ≡ with_bit filter.old n }
 {
-    filter[n / 8] = filter[n / 8] | (128u8 >> (n % 8));
+    filter[n / 8] |= 128 >> (n % 8);
 }
 
 // Whether one of the first kf bits is 0: the flow is new.
+// The bits come with their number kf, here and below, since hash works out four or eight at once and sizes say how many count.
 pub fn any_clear(filter: &[u8], bits: Bits, kf: usize) -> bool
     requires { (kf ≤ 8) × InFilter bits.at kf (length filter.now) }
     ensures { result ≡ any_clear filter.now bits.at kf }
 {
-    let mut i = 0;
-    while i < kf {
-        let n = bits.at[i];
-        if !bit_is_set(filter, n) {
-            return true;
-        }
-        i += 1;
-    }
-    false
+    bits.at[..kf].iter().any(|n| !bit_is_set(filter, *n))
 }
 
 // Sets the first kf bits.
@@ -43,10 +38,7 @@ pub fn set_all(filter: &mut [u8], bits: Bits, kf: usize)
     requires { (kf ≤ 8) × InFilter bits.at kf (length filter.old) }
     ensures { filter.new ≡ with_bits filter.old bits.at kf }
 {
-    let mut i = 0;
-    while i < kf {
-        let n = bits.at[i];
-        set_bit(filter, n);
-        i += 1;
+    for n in &bits.at[..kf] {
+        set_bit(filter, *n);
     }
 }

@@ -14,7 +14,7 @@ use Rattle.packet.proofs.KeyBytes.{length-key}
 use Rattle.list.specs.Records.{Records, records}
 use Rattle.room.specs.Memory.{memory}
 use Rattle.parts.specs.declared.Place.{Place}
-use Rattle.parts.specs.Areas.{place_after}
+use Rattle.parts.specs.Places.{place_after}
 use Rattle.exchange.specs.Exchange.{Exchanging, room_a, room_b}
 use Rattle.rounds.specs.Joined.{seam, joined_list}
 use Rattle.meaning.specs.Meaning as encoder

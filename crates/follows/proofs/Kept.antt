@@ -1,5 +1,6 @@
 -- Calls over records follow each other as calls over numbers do: the list that a call puts together, taken apart again, is what the call over numbers left.
 use mathlib.Core.Path.{◌≡◌, ap, ◌∙◌}
+use mathlib.Core.Bool.{true, false}
 use mathlib.Core.Logic.{inl, inr}
 use mathlib.Core.List.{List}
 use Prim.Native.Nat.{ℕ, zero, suc, ◌+◌, ◌*◌, ◌<◌}
@@ -9,6 +10,7 @@ use lib.Bits.{bit_or, or_lt}
 use lib.Dec.{ltb}
 use lib.ListN.{length, get_or, set, drop, length-set, length-replicate}
 use lib.Seq.{length-sets, get_or-set_same, get_or-set_other}
+use Rattle.std.specs.Prelude.{Result, Ok, Err}
 use Rattle.laws.specs.BigEndian.{Bytes}
 use Rattle.laws.specs.Xor.{xor_bytes}
 use Rattle.laws.proofs.Bools.{split}
@@ -25,20 +27,13 @@ use Rattle.packet.specs.Key.{key_bytes}
 use Rattle.packet.proofs.KeyBytes.{key-are-bytes}
 use Rattle.table.specs.Table.{Tab, mixed, taken_at, taken_out}
 use Rattle.peeling.specs.Peel as peeling
-use Rattle.peeling.specs.declared.Step.{Step}
-use Rattle.peeling.specs.declared.Step.TheVariants as peel
-use Rattle.peeling.specs.declared.Stop.{Stop}
-use Rattle.peeling.specs.declared.Stop.TheVariants as stop
 use Rattle.counting.specs.Book.{Book}
 use Rattle.counting.specs.Count as counting
-use Rattle.counting.specs.declared.Step as counts
-use Rattle.counting.specs.declared.Step.TheVariants as count
 use Rattle.settling.specs.Settle as settling
-use Rattle.handing.specs.declared.Handed.{Handed}
-use Rattle.handing.specs.declared.Handed.TheVariants as hand
+use Rattle.handing.specs.declared.HandError.{HandError}
 use Rattle.handing.specs.Hand as handing
-use Rattle.reading.specs.declared.Reading.{Reading}
-use Rattle.reading.specs.declared.Reading.TheVariants as read
+use Rattle.reading.specs.declared.ReadError.{ReadError}
+use Rattle.reading.specs.declared.Image.{Image}
 use Rattle.reading.specs.Read.{read_of}
 use Rattle.room.specs.declared.Session.{Session}
 use Rattle.room.specs.Memory.{Memory, memory, room_fits}
@@ -125,13 +120,13 @@ module _ (m : ℕ) (z : Sizes) (salt : ℕ) where
         | inr p ↦ rw p h
       ]
 
-  after-keeps : (n : ℕ) (more : Tab → Records → List ℕ → peeling.Ended) (s : Step) (t : Tab) (rs : Records) (seen : List ℕ)
+  after-keeps : (n : ℕ) (more : Tab → Records → List ℕ → peeling.Ended) (s : peeling.Step) (t : Tab) (rs : Records) (seen : List ℕ)
       → ((t : Tab) (rs : Records) (seen : List ℕ) → Keeps t rs → Keeps (more t rs seen).table (more t rs seen).list) → Keeps t rs
       → Keeps (peeling.after_peel more n s t rs seen).table (peeling.after_peel more n s t rs seen).list
   unfolding peeling.after_peel
-  after-keeps n more peel.Next t rs seen k h = k t rs seen h
-  after-keeps n more peel.Quiet t rs seen k h = h
-  after-keeps n more (peel.Damaged c) t rs seen k h = h
+  after-keeps n more (Ok true) t rs seen k h = k t rs seen h
+  after-keeps n more (Ok false) t rs seen k h = h
+  after-keeps n more (Err c) t rs seen k h = h
 
   peels-keep : (k n : ℕ) (t : Tab) (rs : Records) (seen : List ℕ) → Keeps t rs
       → Keeps (peeling.peels_upto k ipv4_layout z salt n t rs seen).table (peeling.peels_upto k ipv4_layout z salt n t rs seen).list
@@ -154,12 +149,12 @@ module _ (m : ℕ) (z : Sizes) (salt : ℕ) where
         | inr p ↦ rw p h
       ]
 
-  after-counts : (more : Book → Records → counting.Ended) (s : counts.Step) (b : Book) (rs : Records)
+  after-counts : (more : Book → Records → counting.Ended) (s : counting.Step) (b : Book) (rs : Records)
       → ((b : Book) (rs : Records) → Sound m rs → Sound m (more b rs).list) → Sound m rs → Sound m (counting.after_count more s b rs).list
   unfolding counting.after_count
-  after-counts more count.Next b rs k h = k b rs h
-  after-counts more count.Quiet b rs k h = h
-  after-counts more (count.Damaged c) b rs k h = h
+  after-counts more (Ok true) b rs k h = k b rs h
+  after-counts more (Ok false) b rs k h = h
+  after-counts more (Err c) b rs k h = h
 
   counts-keep : (k n : ℕ) (flows : List ℕ) (b : Book) (rs : Records) → Sound m rs → Sound m (counting.counts_upto k ipv4_layout z salt n flows b rs).list
   unfolding counting.counts_upto
@@ -167,11 +162,11 @@ module _ (m : ℕ) (z : Sizes) (salt : ℕ) where
   counts-keep (suc k) n flows b rs h =
       after-counts (counting.counts_upto k ipv4_layout z salt n flows) _ _ _ (λ b rs q. counts-keep k n flows b rs q) (count-keeps n flows b rs h)
 
-  then_keeps : (packets : List ℕ) (t : Tab) (rs : Records) (seen : List ℕ) (s : Stop) → Keeps t rs
+  then_keeps : (packets : List ℕ) (t : Tab) (rs : Records) (seen : List ℕ) (s : peeling.Stop) → Keeps t rs
       → Keeps (settling.then_counts ipv4_layout z salt packets t rs seen s).table (settling.then_counts ipv4_layout z salt packets t rs seen s).list
   unfolding settling.then_counts settling.after_counts counting.counts_of
-  then_keeps packets t rs seen (stop.Done n) h = (h.0, counts-keep n n t.flows _ rs h.1)
-  then_keeps packets t rs seen (stop.Damaged n c) h = h
+  then_keeps packets t rs seen (Ok n) h = (h.0, counts-keep n n t.flows _ rs h.1)
+  then_keeps packets t rs seen (Err d) h = h
 
   pub settled-keeps : (n : ℕ) (t : Tab) (packets : List ℕ) (rs : Records) (seen : List ℕ) → Keeps t rs
       → Keeps (settling.settle_of ipv4_layout z salt n t packets rs seen).table (settling.settle_of ipv4_layout z salt n t packets rs seen).list
@@ -179,14 +174,11 @@ module _ (m : ℕ) (z : Sizes) (salt : ℕ) where
   settled-keeps n t packets rs seen h = then_keeps packets _ _ _ _ (peels-keep _ n t rs seen h)
 
   -- ---- hand-over
-  answer_keeps : (n : ℕ) (key : List ℕ) (t : Tab) (rs : Records) (seen : List ℕ) (a : Handed) → Bytes key → Keeps t rs
+  answer_keeps : (n : ℕ) (key : List ℕ) (t : Tab) (rs : Records) (seen : List ℕ) (a : Result (Unit {0}) HandError) → Bytes key → Keeps t rs
       → Keeps (handing.after_answer ipv4_layout z salt n key t rs seen a).table (handing.after_answer ipv4_layout z salt n key t rs seen a).list
   unfolding handing.after_answer
-  answer_keeps n key t rs seen hand.Taken k h = (taken-bytes z salt key n t k h.0, sound-appended m n key 2 rs k (omega arith) h.1)
-  answer_keeps n key t rs seen hand.NotInFilter k h = h
-  answer_keeps n key t rs seen hand.Listed k h = h
-  answer_keeps n key t rs seen hand.EmptyCell k h = h
-  answer_keeps n key t rs seen hand.TooMany k h = h
+  answer_keeps n key t rs seen (Ok x) k h = (taken-bytes z salt key n t k h.0, sound-appended m n key 2 rs k (omega arith) h.1)
+  answer_keeps n key t rs seen (Err e) k h = h
 
   pub handed-keeps : (n : ℕ) (key filter : List ℕ) (t : Tab) (rs : Records) (seen : List ℕ) → Bytes key → Keeps t rs
       → Keeps (handing.hand_of ipv4_layout z salt n key filter t rs seen).table (handing.hand_of ipv4_layout z salt n key filter t rs seen).list
@@ -235,17 +227,13 @@ module _ (m : Memory) (n : ℕ) (sound : Sound n m.list) where
   abbrev Some : opens.Opening → Type 0
   Some x = (k : ℕ) × Sound k x.room.list
 
-  read-sound : (image : List ℕ) (slot : ℕ) (r : Reading) → Some (opens.open_read ipv4_layout slot image m r)
+  read-sound : (image : List ℕ) (slot : ℕ) (r : Result Image ReadError) → Some (opens.open_read ipv4_layout slot image m r)
   unfolding opens.open_read
-  read-sound image slot (read.Image z salt) = elim (split (room_fits ipv4_layout z m)) [
-    | inl p ↦ rw p (2 * table_cells ipv4_layout z, cleared z salt image)
+  read-sound image slot (Ok i) = elim (split (room_fits ipv4_layout i.sizes m)) [
+    | inl p ↦ rw p (2 * table_cells ipv4_layout i.sizes, cleared i.sizes i.salt image)
     | inr p ↦ rw p (n, sound)
   ]
-  read-sound image slot read.Length = (n, sound)
-  read-sound image slot (read.Check b) = (n, sound)
-  read-sound image slot (read.Form b) = (n, sound)
-  read-sound image slot (read.Mixed b) = (n, sound)
-  read-sound image slot read.Stale = (n, sound)
+  read-sound image slot (Err x) = (n, sound)
 
   open-sound : (image : List ℕ) (slot : ℕ) → Some (opens.open_of ipv4_layout image slot m)
   unfolding opens.open_of

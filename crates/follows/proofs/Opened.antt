@@ -4,6 +4,7 @@ use mathlib.Core.List.{List}
 use Prim.Native.Nat.{ℕ, zero, suc, ◌+◌, ◌*◌}
 use native.Mathlib.Omega.{arith}
 use lib.ListN.{drop, take}
+use Rattle.std.specs.Prelude.{Result, Ok}
 use Rattle.laws.specs.BigEndian.{Bytes}
 use Rattle.laws.specs.Upto.{join_upto}
 use Rattle.laws.proofs.BigEndian.{bytes-append, bytes_take, bytes_drop}
@@ -12,10 +13,9 @@ use Rattle.layout.specs.Sizes.{ipv4_layout, table_cells}
 use Rattle.cell.specs.Cell.{flow_xor_at}
 use Rattle.block.specs.Block.{block_at}
 use Rattle.reading.specs.Read.{cells_in}
-use Rattle.room.specs.declared.Session.{Session}
 use Rattle.room.specs.Memory.{Memory}
-use Rattle.opening.specs.declared.Opened.{Opened}
-use Rattle.opening.specs.declared.Opened.TheVariants.{Open}
+use Rattle.opening.specs.declared.OpenError.{OpenError}
+use Rattle.room.specs.declared.Session.{Session}
 use Rattle.opening.specs.Open.{xors_in, opened_memory, opening, open_of}
 use Rattle.opening.proofs.Answers.{open_done}
 use Rattle.calls.specs.Calls.{Lent, Called, called, as_numbers, open_records, over_records}
@@ -35,16 +35,16 @@ xors-bytes z image h =
     join-bytes (table_cells ipv4_layout z) (flow_xor_at ipv4_layout (cells_in ipv4_layout z image)) (λ c. part_bytes 13 (c * 20) (cells_in ipv4_layout z image)
     (join-bytes (z.k * z.q) (λ n. take 480 (drop 16 (block_at image (z.f + n)))) (λ n. part_bytes 480 16 (block_at image (z.f + n)) (part_bytes 512 ((z.f + n) * 512) image h))))
 
-module _ (image : List ℕ) (slot : ℕ) (m room : Lent) (s : Session) (e : open_records image slot m ≡ called (Open s) room) where
-  answered : (open_of ipv4_layout image slot (as_numbers m)).answer ≡ Open s
+module _ (image : List ℕ) (slot : ℕ) (m room : Lent) (s : Session) (e : open_records image slot m ≡ called (Ok s) room) where
+  answered : (open_of ipv4_layout image slot (as_numbers m)).answer ≡ Ok s
   unfolding over_records
-  answered = ap (λ (x : Called Opened). x.answer) e
+  answered = ap (λ (x : Called (Result Session OpenError)). x.answer) e
 
   -- a session opened over records is opened over numbers
-  pub opened : open_of ipv4_layout image slot (as_numbers m) ≡ opening (Open s) (as_numbers room)
+  pub opened : open_of ipv4_layout image slot (as_numbers m) ≡ opening (Ok s) (as_numbers room)
   opened =
       let left : (open_of ipv4_layout image slot (as_numbers m)).room ≡ as_numbers room
-      = sym (open-follows m image slot) ∙ ap (λ (x : Called Opened). as_numbers x.room) e in
+      = sym (open-follows m image slot) ∙ ap (λ (x : Called (Result Session OpenError)). as_numbers x.room) e in
       λ j. opening (answered j) (left j)
 
   pub opened-bytes : Bytes image → Bytes room.table.xors

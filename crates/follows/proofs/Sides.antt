@@ -2,18 +2,16 @@
 use mathlib.Core.Logic.{inl, inr}
 use mathlib.Core.List.{List}
 use Prim.Native.Nat.{ℕ, zero, suc}
+use Rattle.std.specs.Prelude.{Ok, Err}
 use Rattle.laws.specs.BigEndian.{Bytes}
 use Rattle.laws.proofs.Bools.{split}
 use Rattle.laws.proofs.Upto.{each_keeps}
 use Rattle.layout.specs.Sizes.{ipv4_layout}
 use Rattle.list.specs.Records.{key_at}
-use Rattle.peeling.specs.declared.Stop.{Stop}
-use Rattle.peeling.specs.declared.Stop.TheVariants as stop
+use Rattle.peeling.specs.Peel.{Stop}
 use Rattle.parts.specs.Sides.{Switch, Side, settle_side, Given, given, hand_at, hand_keys, hand_list}
-use Rattle.ending.specs.declared.Ending.{Ending}
-use Rattle.ending.specs.declared.Ending.TheVariants as end
 use Rattle.rounds.specs.Rounds.{Pair, then_b, settle_both, hand_both, round, rounds, most_rounds, then_rounds, exchange_sides}
-use Rattle.ending.specs.Over.{is_over}
+use Rattle.ending.specs.Over.{Ending, is_over}
 use Rattle.follows.proofs.Kept.{Keep, xor-bytes, settled-keeps, handed-keeps}
 
 -- one session, whose list has room for m records
@@ -41,8 +39,8 @@ module _ (m n : ℕ) (A B : Switch) where
 
   then-kept : (a b : Side) (twelves : ℕ) (s : Stop) → SideKept m a → SideKept n b → BothKept (then_b ipv4_layout B a b twelves s).pair
   unfolding then_b
-  then-kept a b twelves (stop.Done k) h q = (h, side-settled n B b q)
-  then-kept a b twelves (stop.Damaged k c) h q = (h, q)
+  then-kept a b twelves (Ok k) h q = (h, side-settled n B b q)
+  then-kept a b twelves (Err d) h q = (h, q)
 
   both-settled : (p : Pair) → BothKept p → BothKept (settle_both ipv4_layout A B p).pair
   unfolding settle_both
@@ -75,9 +73,8 @@ module _ (m n : ℕ) (A B : Switch) where
 
     then-rounds : (p : Pair) (o : Ending) → BothKept p → BothKept (then_rounds ipv4_layout A f B g p o).pair
     unfolding then_rounds
-    then-rounds p end.Settled h = rounds-kept (most_rounds ipv4_layout A B) p h
-    then-rounds p (end.DamagedA c) h = h
-    then-rounds p (end.DamagedB c) h = h
+    then-rounds p (Ok done) h = rounds-kept (most_rounds ipv4_layout A B) p h
+    then-rounds p (Err d) h = h
 
     pub exchange-kept : (p : Pair) → BothKept p → BothKept (exchange_sides ipv4_layout A f B g p).pair
     unfolding exchange_sides

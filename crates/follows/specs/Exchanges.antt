@@ -1,9 +1,8 @@
 -- The exchange over records on two sessions, as the theory sees it.
 use Rattle.std.specs.Prelude.{◌++◌, take, drop}
 use Rattle.layout.specs.Sizes.{ipv4_layout}
-use Rattle.exchange.specs.declared.Exchanged.{Exchanged}
 use Rattle.parts.specs.declared.Place.{Place}
-use Rattle.exchange.specs.Exchange.{Exchanging, exchanging, room_a, room_b}
+use Rattle.exchange.specs.Exchange.{Exchanged, Exchanging, exchanging, room_a, room_b}
 use Rattle.rounds.specs.Joined.{joined_table, seam}
 use Rattle.theory.specs.Exchange.{Pair}
 use Rattle.demands.specs.Calls.{with_listed}

@@ -1,6 +1,6 @@
 -- The form of a block, fact by fact.
-use mathlib.Core.Path.{◌≡◌, refl, sym, ap, ◌∙◌}
-use mathlib.Core.Bool.{Bool, true, ◌&&◌, ◌||◌}
+use mathlib.Core.Path.{◌≡◌, refl, ap, ◌∙◌}
+use mathlib.Core.Bool.{true, ◌&&◌, ◌||◌}
 use mathlib.Core.List.{List}
 use Prim.Native.Nat.{ℕ}
 use borrow.Author.Tests.{eqb-true, eq-eqb}
@@ -73,7 +73,3 @@ form-facts l z n b h =
       zeros = and_l p₅ p₆ h₅;
       cells = and_r p₅ p₆ h₅;
     }
-
--- the sizes in a block, tested
-pub sizes-test : (b : List ℕ) (z : Sizes) {y : Sizes} {t u : Bool} → y ≡ sizes_in b → t ≡ same_sizes y z → t ≡ u → same_sizes (sizes_in b) z ≡ u
-sizes-test b z e p q = ap (λ y. same_sizes y z) (sym e) ∙ sym p ∙ q

@@ -3,7 +3,9 @@ use mathlib.Core.Path.{◌≡◌, refl, sym, ap, ◌∙◌}
 use mathlib.Core.Bool.{false}
 use mathlib.Core.List.{List}
 use mathlib.Core.Logic.{inl, inr}
-use Prim.Native.Nat.{ℕ, ◌+◌, ◌-◌, ◌*◌, ◌<◌, ◌≤◌}
+use Prim.Native.Nat.{ℕ, zero, suc, ◌+◌, ◌*◌, ◌<◌, ◌≤◌}
+use Rattle.std.proofs.Common.{Option, Some, None}
+use native.Mathlib.Numerals.{add-one}
 use native.Mathlib.Omega.{arith}
 use lib.ListN.{length, get_or}
 use lib.Seq.{sets}
@@ -14,7 +16,7 @@ use Rattle.laws.proofs.Upto.{any-more, any-skip}
 use Rattle.layout.specs.declared.Layout.{Layout}
 use Rattle.layout.specs.declared.Sizes.{Sizes}
 use Rattle.hash.specs.Places.{cell_of}
-use Rattle.index.specs.Index.{linked, last_in}
+use Rattle.index.specs.Index.{before, linked, last_in}
 use Rattle.index.proofs.Index.{last_within, last_has, last_none, indexes-same, indexes-more}
 use Rattle.list.specs.Records.{key_at, same_bytes, is_listed}
 use Rattle.list.proofs.Laws.{same-is, length-key, key-appended, key-kept}
@@ -27,6 +29,15 @@ pub record Down (l : Layout) (n : ℕ) (keys key seen : List ℕ) (i : ℕ) : Ty
   pub within : i ≤ n
   pub decides : is_listed l n keys key ≡ is_listed l i keys key
   pub in-bucket : (j : ℕ) → i ≡ j + 1 → leads.bucket_at j ≡ b
+
+-- the place after a record, 0 after none: what the index holds
+abbrev pub place : Option ℕ → ℕ
+place None = 0
+place (Some i) = suc i
+
+pub place_before : (x : ℕ) {o : Option ℕ} → o ≡ before x → place o ≡ x
+place_before zero e = ap place e
+place_before (suc i) e = ap place e
 
 module _ (l : Layout) (n : ℕ) (keys key seen : List ℕ) (inside : n * l.key ≤ length keys) (fits : length key ≡ l.key) where
   module _ (b : ℕ) (h : LeadsTo l n keys key b seen) where
@@ -55,15 +66,15 @@ module _ (l : Layout) (n : ℕ) (keys key seen : List ℕ) (inside : n * l.key �
     pub down-first : {i : ℕ} → b < 8192 → i ≡ get_or seen b 0 → Down l n keys key seen i
     down-first low e = down-from n (omega arith) refl (e ∙ h.indexes.lasts b low)
 
-  pub down-next : {i next : ℕ} → Down l n keys key seen i → 0 < i → same_bytes (key_at l keys (i - 1)) key ≡ false
-      → next ≡ get_or seen (8192 + (i - 1)) 0
-      → Down l n keys key seen next × (next < i)
+  -- from record j, which is another key, to the one before it in the bucket
+  pub down-next : {o next : Option ℕ} {j : ℕ} → Down l n keys key seen (place o) → o ≡ Some j → same_bytes (key_at l keys j) key ≡ false
+      → next ≡ before (get_or seen (8192 + j) 0) → Down l n keys key seen (place next) × (place next < place o)
   unfolding is_listed
-  down-next {i} {next} d above other e =
+  down-next {o} {next} {j} d at other e =
       let h = d.leads in
-      let j = i - 1 in
-      let after : i ≡ j + 1 = omega (arith, above) in
-      let is = e ∙ h.indexes.earlier j (omega (arith, d.within, after)) ∙ ap (λ x. last_in h.bucket_at x j) (d.in-bucket j after) in (
+      let after : place o ≡ j + 1 = ap place at ∙ sym (add-one j) in
+      let is =
+      place_before _ e ∙ h.indexes.earlier j (omega (arith, d.within, after)) ∙ ap (λ x. last_in h.bucket_at x j) (d.in-bucket j after) in (
         down-from d.b h j (omega (arith, d.within, after))
             (d.decides ∙ ap (λ m. is_listed l m keys key) after ∙ any-more j (λ k. same_bytes (key_at l keys k) key) ∙ rw other (or-f (is_listed l j keys key))) is,
         omega (arith, is, last_within h.bucket_at d.b j, after),

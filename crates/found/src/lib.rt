@@ -24,12 +24,12 @@ pub fn is_found(l: Layout, n: usize, at: Cells, key: &[u8], keys: &[u8], seen: &
         × LeadsTo l n keys.now key.now (bucket at.at) seen.now }
     ensures { result ≡ is_listed l n keys.now key.now }
 {
-    let mut i = index::first(seen, bucket(at));
-    while i != 0 {
-        if list::key_is(l, keys, i - 1, key) {
+    let mut next = index::first(seen, bucket(at));
+    while let Some(i) = next {
+        if list::key_is(l, keys, i, key) {
             return true;
         }
-        i = index::earlier(seen, i - 1);
+        next = index::earlier(seen, i);
     }
     false
 }

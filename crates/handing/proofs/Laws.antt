@@ -16,22 +16,19 @@ use Rattle.table.specs.Table.{Tab, taken_out, Bounded}
 use Rattle.table.proofs.Bounds.{bounded-handed}
 use Rattle.found.specs.Seen.{bucket_of}
 use Rattle.peeling.specs.Peel.{Fits}
-use Rattle.table.proofs.Table.{fit-out}
+use Rattle.table.proofs.Parts.{fit-out}
 use Rattle.found.proofs.Seen.{covers_more}
 use Rattle.handing.specs.Hand.{answer_of, Handing, handing, after_answer, hand_of, hand_number, Hands}
-use Rattle.handing.specs.declared.Handed.{Handed}
-use Rattle.handing.specs.declared.Handed.TheVariants.{Taken, NotInFilter, Listed, EmptyCell, TooMany}
+use Rattle.handing.specs.declared.HandError.{HandError}
+use Rattle.std.specs.Prelude.{Result, Ok, Err}
 use Rattle.handing.proofs.Answers.{after_kept, taken-room, taken-told}
 
 -- the answer goes with what is left
-after-answer : (l : Layout) (z : Sizes) (salt n : ℕ) (key : List ℕ) (t : Tab) (rs : Records) (seen : List ℕ) (a : Handed)
+after-answer : (l : Layout) (z : Sizes) (salt n : ℕ) (key : List ℕ) (t : Tab) (rs : Records) (seen : List ℕ) (a : Result Unit HandError)
     → (after_answer l z salt n key t rs seen a).answer ≡ a
 unfolding after_answer
-after-answer l z salt n key t rs seen Taken = refl
-after-answer l z salt n key t rs seen NotInFilter = refl
-after-answer l z salt n key t rs seen Listed = refl
-after-answer l z salt n key t rs seen EmptyCell = refl
-after-answer l z salt n key t rs seen TooMany = refl
+after-answer l z salt n key t rs seen (Ok x) = refl
+after-answer l z salt n key t rs seen (Err e) = refl
 
 -- all fits where a key was taken out and appended
 fits-taken : (l : Layout) (z : Sizes) (salt n : ℕ) (key : List ℕ) (t : Tab) (rs : Records) (seen : List ℕ) → Fits l z salt n t rs seen
@@ -46,7 +43,7 @@ fits-taken l z salt n key t rs seen f k h = record {
       (key-inside n f.room h);
 }
 
-module _ (l : Layout) (z : Sizes) (salt n : ℕ) (key filter : List ℕ) (t : Tab) (rs : Records) (seen : List ℕ) {r : Handed} {t' : Tab} {rs' : Records}
+module _ (l : Layout) (z : Sizes) (salt n : ℕ) (key filter : List ℕ) (t : Tab) (rs : Records) (seen : List ℕ) {r : Result Unit HandError} {t' : Tab} {rs' : Records}
     {seen' : List ℕ} (e : handing r t' rs' seen' ≡ hand_of l z salt n key filter t rs seen) where
   after_is : handing r t' rs' seen' ≡ after_answer l z salt n key t rs seen (answer_of l z salt n (handed_in n rs) filter t.flows rs.keys key)
   unfolding hand_of
@@ -65,9 +62,9 @@ module _ (l : Layout) (z : Sizes) (salt n : ℕ) (key filter : List ℕ) (t : Ta
   pub hand-kept : 0 < hand_number r → handing r t' rs' seen' ≡ handing r t rs seen
   hand-kept h = after-it ∙ after_kept l z salt n key filter t rs seen r h
 
-  module _ {handed : ℕ} (h : Hands l z salt n handed key filter t rs seen) (q : r ≡ Taken) where
-    taken_is : handing Taken t' rs' seen'
-        ≡ handing Taken (taken_out l z salt key n t) (appended l n key 2 rs) (linked seen (bucket_of l z salt key) n)
+  module _ {handed : ℕ} (h : Hands l z salt n handed key filter t rs seen) (q : r ≡ Ok tt) where
+    taken_is : handing (Ok tt) t' rs' seen'
+        ≡ handing (Ok tt) (taken_out l z salt key n t) (appended l n key 2 rs) (linked seen (bucket_of l z salt key) n)
     unfolding after_answer
     taken_is = (rw q at after-it)
 

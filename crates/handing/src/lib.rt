@@ -3,126 +3,117 @@
 
 ghost use Rattle.std.specs.Prelude.{◌≡◌, ◌*◌, ◌≤◌, length};
 ghost use Rattle.laws.specs.Upto.{list_upto};
-ghost use Rattle.layout.specs.Sizes.{Lays, Ranged, table_cells, filter_bytes};
+ghost use Rattle.layout.specs.Sizes.{table_cells, filter_bytes};
 ghost use Rattle.hash.specs.Places.{cell_of};
-ghost use Rattle.hash.specs.Salted.{after_salt};
-ghost use Rattle.list.specs.Records.{records};
-ghost use Rattle.table.specs.Table.{tab};
+ghost use Rattle.list.specs.Found.{list_of, FoundKept};
+ghost use Rattle.table.specs.Table.{tab_of, TableKept};
 ghost use Rattle.found.specs.Seen.{Covers};
-ghost use Rattle.handing.specs.Hand.{answer_of, handing, hand_of, Hands, taken_by, twelve_by};
+ghost use Rattle.handing.specs.Hand.{answer_of, handing, hand_of, Hands, taken_by, twelve_by, error_number};
 
-use hash::{Cells, Salted};
-use layout::{Layout, Sizes};
+use hash::{Cells, Placing};
+use list::Found;
+use table::Table;
 
-// What a hand-over answers: taken out and listed, or why not.
+// Why a key is not taken out.
 #[derive(Clone, Copy)]
-pub enum Handed {
-    Taken,
+pub enum HandError {
     NotInFilter,
     Listed,
     EmptyCell,
     TooMany,
 }
 
-// The answer for a key, whose cells are given. n flows are listed, `handed` of them handed over.
+impl HandError {
+    // 01's number.
+    pub fn number(self) -> u32
+        ensures { result ≡ error_number self }
+    {
+        match self {
+            HandError::NotInFilter => 9,
+            HandError::Listed => 10,
+            HandError::EmptyCell => 11,
+            HandError::TooMany => 12,
+        }
+    }
+}
+
+// Whether a key is taken out, or why not; its cells are given. n flows are listed, `handed` of them handed over.
 fn answer(
-    l: Layout,
-    z: Sizes,
-    salt: u32,
-    h: Salted,
+    p: Placing,
     n: usize,
     handed: usize,
     at: Cells,
     key: &[u8],
     filter: &[u8],
-    flows: &[u16],
-    keys: &[u8],
+    table: &Table,
+    found: &Found,
     seen: &[u16],
-) -> Handed
-    requires { Lays l × Ranged z × (at.at ≡ list_upto 4 (cell_of l z salt key.now)) × (length key.now ≡ l.key)
-        × (length filter.now ≡ filter_bytes z) × (length flows.now ≡ table_cells l z) × (n * l.key ≤ length keys.now)
-        × (n ≤ 3072) × Covers l z salt n keys.now seen.now × (h ≡ after_salt salt) }
-    ensures { result ≡ answer_of l z salt n handed filter.now flows.now keys.now key.now }
+) -> Result<(), HandError>
+    requires { (at.at ≡ list_upto 4 (cell_of p.shape.layout p.shape.sizes p.salt key.now)) × (length key.now ≡ p.shape.layout.key)
+        × (length filter.now ≡ filter_bytes p.shape.sizes) × (length table.now.flows.now ≡ table_cells p.shape.layout p.shape.sizes)
+        × (n * p.shape.layout.key ≤ length found.now.keys.now) × (n ≤ 3072)
+        × Covers p.shape.layout p.shape.sizes p.salt n found.now.keys.now seen.now }
+    ensures { result ≡ answer_of p.shape.layout p.shape.sizes p.salt n handed filter.now table.now.flows.now found.now.keys.now key.now }
 {
-    let bits = hash::bits_of(z, salt, h, key);
-    if filter::any_clear(filter, bits, z.kf) {
-        return Handed::NotInFilter;
+    let sizes = p.shape.sizes;
+    if filter::any_clear(filter, p.bits_of(key), sizes.kf) {
+        return Err(HandError::NotInFilter);
     }
-    if found::is_found(l, n, at, key, keys, seen) {
-        return Handed::Listed;
+    if found::is_found(p.shape.layout, n, at, key, found.keys, seen) {
+        return Err(HandError::Listed);
     }
-    if table::any_empty(at, z.k, flows) {
-        return Handed::EmptyCell;
+    if table.any_empty(at, sizes.k) {
+        return Err(HandError::EmptyCell);
     }
-    if handed >= layout::table_cells(l, z) {
-        return Handed::TooMany;
+    if handed >= p.shape.table_cells() {
+        return Err(HandError::TooMany);
     }
-    Handed::Taken
+    Ok(())
 }
 
 // Hands a key over. n flows are listed, `handed` of them handed over.
 pub fn hand(
-    l: Layout,
-    z: Sizes,
-    salt: u32,
-    h: Salted,
+    p: Placing,
     n: usize,
     handed: usize,
     key: &[u8],
     filter: &[u8],
-    xors: &mut [u8],
-    flows: &mut [u16],
-    unknowns: &mut [u16],
-    positions: &mut [u16],
-    marks: &mut [u64],
-    keys: &mut [u8],
-    counts: &mut [u32],
-    flags: &mut [u8],
+    table: &mut Table,
+    found: &mut Found,
     seen: &mut [u16],
-) -> Handed
-    requires { Hands l z salt n handed key.now filter.now (tab xors.old flows.old unknowns.old positions.old marks.old)
-        (records keys.old counts.old flags.old) seen.old × (h ≡ after_salt salt) }
-    ensures { handing result (tab xors.new flows.new unknowns.new positions.new marks.new)
-        (records keys.new counts.new flags.new) seen.new
-        ≡ hand_of l z salt n key.now filter.now
-        (tab xors.old flows.old unknowns.old positions.old marks.old)
-        (records keys.old counts.old flags.old) seen.old }
+) -> Result<(), HandError>
+    requires { Hands p.shape.layout p.shape.sizes p.salt n handed key.now filter.now (tab_of table.old) (list_of found.old) seen.old }
+    ensures value { handing result (tab_of table.new) (list_of found.new) seen.new
+        ≡ hand_of p.shape.layout p.shape.sizes p.salt n key.now filter.now (tab_of table.old) (list_of found.old) seen.old }
+    ensures table_kept { TableKept table.new table.old }
+    ensures found_kept { FoundKept found.new found.old }
 {
-    let at = hash::cells_of(l, z, salt, h, key);
-    let a = answer(l, z, salt, h, n, handed, at, key, filter, flows, keys, seen);
-    let Handed::Taken = a else {
-        return a;
-    };
-    list::append(l, n, key, 2, keys, counts, flags);
+    let at = p.cells_of(key);
+    answer(p, n, handed, at, key, filter, table, found, seen)?;
+    found.append(p.shape.layout, n, key, 2);
     index::link(seen, found::bucket(at), n);
-    table::take_out(
-        l, z, salt, h, at, key, n as u16, xors, flows, unknowns, positions, marks,
-    );
-    a
+    table.take_out(p, at, key, n as u16);
+    Ok(())
 }
 
+// The numbers of an answer, which parts and rounds add up: their definitions are cited there.
+
 // How many flows more are listed after an answer.
-pub fn taken_by(h: Handed) -> usize
+pub fn taken_by(h: Result<(), HandError>) -> usize
     ensures { (result ≡ taken_by h) × (result ≤ 1) }
 {
     match h {
-        Handed::Taken => 1,
-        Handed::NotInFilter => 0,
-        Handed::Listed => 0,
-        Handed::EmptyCell => 0,
-        Handed::TooMany => 0,
+        Ok(()) => 1,
+        Err(_) => 0,
     }
 }
 
 // How many of the answers 12 that an exchange counts it is.
-pub fn twelve_by(h: Handed) -> usize
+pub fn twelve_by(h: Result<(), HandError>) -> usize
     ensures { (result ≡ twelve_by h) × (result ≤ 1) }
 {
     match h {
-        Handed::Taken => 0,
-        Handed::NotInFilter => 0,
-        Handed::Listed => 0,
-        Handed::EmptyCell => 0,
-        Handed::TooMany => 1,
+        Err(HandError::TooMany) => 1,
+        _ => 0,
     }
 }

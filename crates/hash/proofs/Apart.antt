@@ -11,14 +11,18 @@ use lib.ListN.{length, get_or, get_or-append}
 use lib.Seq.{get_or-append-add}
 use borrow.Author.Tests.{lt-leb, le-leb, eq-eqb, eqb-true}
 use Rattle.laws.specs.Upto.{list_upto}
-use Rattle.laws.proofs.Upto.{length-list, list_at, list-four, four_are, any-yes, any_some}
+use Rattle.laws.proofs.Upto.{length-list, list_at, list_same, list-four, any-yes, any_some}
 use Rattle.layout.specs.declared.Layout.{Layout}
 use Rattle.layout.specs.declared.Sizes.{Sizes}
 use Rattle.layout.specs.Sizes.{Lays, Ranged, part_cells, table_cells, filter_bits}
-use Rattle.layout.proofs.Ranges.{part_low, part-within, filter-low}
+use Rattle.layout.proofs.Ranges.{part_low, part-high, part-within, filter-low}
 use Rattle.hash.specs.Fnv.{hash_of, place}
 use Rattle.hash.specs.Places.{cell_of, bit_of, bits_of, has_cell, cell_role, filter_role, Within}
 use Rattle.hash.proofs.Chain.{hash-lt, place-lt}
+
+-- a part has few cells
+pub few : {l : Layout} {z : Sizes} {n : ℕ} → n ≡ part_cells l z → Lays l → Ranged z → n ≤ 384
+few {l = l} {z = z} e lays ranged = omega (arith, e, part-high l z lays ranged)
 
 -- the cell that the code works out from one chain of the hash
 pub cell-chosen : (l : Layout) (z : Sizes) (salt i : ℕ) (key : List ℕ) {s h c : ℕ} → s ≡ part_cells l z → h ≡ hash_of salt cell_role i key
@@ -84,16 +88,34 @@ module _ (z : Sizes) (r : Ranged z) (salt : ℕ) (key : List ℕ) where
         ∙ list_at 4 (λ j. bit_of z salt key (4 + j)) 0 (i - 4) (omega arith) ∙ ap (bit_of z salt key) q)
   ]
 
--- the four places as the code works them out, from four hashes
-pub cells-four : (l : Layout) (z : Sizes) (salt : ℕ) (key : List ℕ) {s a b c d c₀ c₁ c₂ c₃ : ℕ} → s ≡ part_cells l z
-    → (a ∷ b ∷ c ∷ d ∷ []) ≡ list_upto 4 (λ i. hash_of salt cell_role (0 + i) key)
-    → c₀ ≡ 0 * s + place a s → c₁ ≡ 1 * s + place b s → c₂ ≡ 2 * s + place c s → c₃ ≡ 3 * s + place d s
-    → (c₀ ∷ c₁ ∷ c₂ ∷ c₃ ∷ []) ≡ list_upto 4 (cell_of l z salt key)
-cells-four l z salt key e hs q₀ q₁ q₂ q₃ =
-    let h = four_are (λ i. hash_of salt cell_role (0 + i) key) hs in
+-- the places of hashes, as the code works them out
+module _ (n : ℕ) (salt role : ℕ) (key : List ℕ) (m : ℕ) {hs ps : List ℕ} (e : hs ≡ list_upto n (λ i. hash_of salt role i key))
+    (f : ps ≡ list_upto n (λ i. place (get_or hs i 0) m)) where
+  pub placed : (i : ℕ) → i < n → get_or ps i 0 ≡ place (hash_of salt role i key) m
+  placed i h =
+      ap (λ s. get_or s i 0) f
+      ∙ list_at n (λ j. place (get_or hs j 0) m) 0 i h
+      ∙ ap (λ x. place x m) (ap (λ s. get_or s i 0) e ∙ list_at n (λ j. hash_of salt role j key) 0 i h)
+
+  pub all-placed : ps ≡ list_upto n (λ i. place (hash_of salt role i key) m)
+  all-placed = f ∙ list_same n (λ i. place (get_or hs i 0) m) (λ i. place (hash_of salt role i key) m)
+      (λ i h. ap (λ x. place x m) (ap (λ s. get_or s i 0) e ∙ list_at n (λ j. hash_of salt role j key) 0 i h))
+
+  pub placed_below : 0 < m → (i : ℕ) → i < n → get_or ps i 0 < m
+  placed_below p i h = rw (placed i h) (place-lt (hash_of salt role i key) m (hash-lt salt role i key) p)
+
+-- a key's four cells
+pub cells-four : (l : Layout) (z : Sizes) (salt : ℕ) (key : List ℕ) {s : ℕ} {hs ps : List ℕ} → s ≡ part_cells l z
+    → hs ≡ list_upto 4 (λ i. hash_of salt cell_role i key)
+    → ps ≡ list_upto 4 (λ i. place (get_or hs i 0) s)
+    → (get_or ps 0 0 ∷ (s + get_or ps 1 0) ∷ (2 * s + get_or ps 2 0) ∷ (3 * s + get_or ps 3 0) ∷ []) ≡ list_upto 4 (cell_of l z salt key)
+cells-four l z salt key {s = s} e hs ps =
+    let at = placed 4 salt cell_role key s hs ps in
     list-four (cell_of l z salt key)
-    (cell-chosen l z salt 0 key e h.0 q₀) (cell-chosen l z salt 1 key e h.1 q₁)
-    (cell-chosen l z salt 2 key e h.2 q₂) (cell-chosen l z salt 3 key e h.3 q₃)
+    (cell-chosen l z salt 0 key e refl (omega (arith, at 0 (omega arith))))
+    (cell-chosen l z salt 1 key e refl (omega (arith, at 1 (omega arith))))
+    (cell-chosen l z salt 2 key e refl (omega (arith, at 2 (omega arith))))
+    (cell-chosen l z salt 3 key e refl (omega (arith, at 3 (omega arith))))
 
 -- the first k places of a key, as the code keeps them, are cells
 pub places-within : (l : Layout) (z : Sizes) (lays : Lays l) (r : Ranged z) (salt : ℕ) (key : List ℕ) {at : List ℕ} → at ≡ list_upto 4
@@ -102,31 +124,19 @@ pub places-within : (l : Layout) (z : Sizes) (lays : Lays l) (r : Ranged z) (sal
 places-within l z lays r salt key e i h =
     rw (e, list_at 4 (cell_of l z salt key) 0 i (omega (arith, r.k-high))) (cell-within l z lays r salt key i h)
 
-pub bits-four : (z : Sizes) (salt : ℕ) (key : List ℕ) (first : ℕ) {n a b c d p₀ p₁ p₂ p₃ : ℕ} → n ≡ filter_bits z
-    → (a ∷ b ∷ c ∷ d ∷ []) ≡ list_upto 4 (λ i. hash_of salt filter_role (first + i) key)
-    → p₀ ≡ place a n → p₁ ≡ place b n → p₂ ≡ place c n → p₃ ≡ place d n
-    → (p₀ ∷ p₁ ∷ p₂ ∷ p₃ ∷ []) ≡ list_upto 4 (λ i. bit_of z salt key (first + i))
-unfolding bit_of
-bits-four z salt key first e hs q₀ q₁ q₂ q₃ =
-    let h = four_are (λ i. hash_of salt filter_role (first + i) key) hs in
-    list-four (λ i. bit_of z salt key (first + i))
-    (rw (← e, ← h.0, ← q₀)) (rw (← e, ← h.1, ← q₁)) (rw (← e, ← h.2, ← q₂)) (rw (← e, ← h.3, ← q₃))
+-- a key's filter bits: at most four filter hashes, or more
+pub bits-few : (z : Sizes) (salt : ℕ) (key : List ℕ) {n : ℕ} {hs ps : List ℕ} → z.kf ≤ 4 → n ≡ filter_bits z
+    → hs ≡ list_upto 4 (λ i. hash_of salt filter_role i key)
+    → ps ≡ list_upto 4 (λ i. place (get_or hs i 0) n)
+    → (get_or ps 0 0 ∷ get_or ps 1 0 ∷ get_or ps 2 0 ∷ get_or ps 3 0 ∷ 0 ∷ 0 ∷ 0 ∷ 0 ∷ []) ≡ bits_of z salt key
+unfolding bits_of bit_of list_upto
+bits-few z salt key {n = n} h e hs ps =
+    let at = placed 4 salt filter_role key n hs ps in
+    rw (le-leb z.kf 4 h, at 0 (omega arith), at 1 (omega arith), at 2 (omega arith), at 3 (omega arith), e)
 
--- at most four filter hashes, or more
-pub bits-few : (z : Sizes) (salt : ℕ) (key : List ℕ) {p₀ p₁ p₂ p₃ : ℕ} → z.kf ≤ 4 → (p₀ ∷ p₁ ∷ p₂ ∷ p₃ ∷ []) ≡ list_upto 4
-    (λ i. bit_of z salt key (0 + i))
-    → (p₀ ∷ p₁ ∷ p₂ ∷ p₃ ∷ 0 ∷ 0 ∷ 0 ∷ 0 ∷ []) ≡ bits_of z salt key
-unfolding bits_of list_upto
-bits-few z salt key h e =
-    let p = four_are (λ i. bit_of z salt key (0 + i)) e in
-    rw (le-leb z.kf 4 h, ← p.0, ← p.1, ← p.2, ← p.3)
-
-pub bits-many : (z : Sizes) (salt : ℕ) (key : List ℕ) {p₀ p₁ p₂ p₃ r₀ r₁ r₂ r₃ : ℕ} → 4 < z.kf
-    → (p₀ ∷ p₁ ∷ p₂ ∷ p₃ ∷ []) ≡ list_upto 4 (λ i. bit_of z salt key (0 + i))
-    → (r₀ ∷ r₁ ∷ r₂ ∷ r₃ ∷ []) ≡ list_upto 4 (λ i. bit_of z salt key (4 + i))
-    → (p₀ ∷ p₁ ∷ p₂ ∷ p₃ ∷ r₀ ∷ r₁ ∷ r₂ ∷ r₃ ∷ []) ≡ bits_of z salt key
-unfolding bits_of list_upto
-bits-many z salt key h e g =
-    let p = four_are (λ i. bit_of z salt key (0 + i)) e in
-    let r = four_are (λ i. bit_of z salt key (4 + i)) g in
-    rw (lt-leb z.kf 4 h, ← p.0, ← p.1, ← p.2, ← p.3, ← r.0, ← r.1, ← r.2, ← r.3)
+pub bits-many : (z : Sizes) (salt : ℕ) (key : List ℕ) {n : ℕ} {hs ps : List ℕ} → 4 < z.kf → n ≡ filter_bits z
+    → hs ≡ list_upto 8 (λ i. hash_of salt filter_role i key)
+    → ps ≡ list_upto 8 (λ i. place (get_or hs i 0) n)
+    → ps ≡ bits_of z salt key
+unfolding bits_of bit_of list_upto
+bits-many z salt key {n = n} h e hs ps = rw (lt-leb z.kf 4 h, ← e) (all-placed 8 salt filter_role key n hs ps)

@@ -1,19 +1,21 @@
 -- Absorbing byte by byte; a place is below n.
-use mathlib.Core.Path.{◌≡◌, refl, sym, ap, ◌∙◌}
+use mathlib.Core.Path.{◌≡◌, refl, sym, ap, ap₂, ◌∙◌}
 use mathlib.Core.List.{List, [], ◌∷◌, ◌++◌}
-use Prim.Native.Nat.{ℕ, ◌+◌, ◌*◌, ◌/◌, ◌%◌, ◌^◌, ◌<◌, ◌≤◌}
-use native.Mathlib.Nat.{div-one, mul_comm, div-lt_iff_lt-mul, mul-lt-mul_of_pos_right, mul-le-mul}
+use Prim.Native.Nat.{ℕ, ◌+◌, ◌*◌, ◌^◌, ◌<◌, ◌≤◌}
+use native.Mathlib.Nat.{mul_comm, div-lt_iff_lt-mul, mul-lt-mul_of_pos_right, mul-le-mul}
 use native.Mathlib.Numerals.{add-one}
 use native.Mathlib.Omega.{arith}
-use lib.ListN.{length, drop, get_or, drop_of_length-le}
-use lib.Seq.{drop-cons}
+use lib.ListN.{length, take, get_or, replicate}
+use lib.Seq.{take-suc}
+use Rattle.std.proofs.lemmas.List.{take_all, get_or-replicate}
 use lib.Bits.{bit_xor}
 use lib.Pow.{pow_pos}
 use Rattle.laws.specs.BigEndian.{bytes_of}
 use Rattle.laws.specs.Upto.{list_upto}
 use Rattle.hash.specs.Fnv.{step, absorb, basis, fnv, hash_of, place}
 use Rattle.hash.specs.declared.Salted.{Salted}
-use Rattle.hash.specs.Lanes.{absorb_all}
+use Rattle.laws.proofs.Upto.{list_at, list_same, four_same}
+use Rattle.hash.specs.Chains.{absorb_all}
 use Rattle.hash.specs.Places.{filter_role, cell_role}
 use Rattle.hash.specs.Salted.{after_role, hash_after, after_salt}
 
@@ -29,40 +31,30 @@ unfolding hash_of hash_after after_role absorb
 hash-after salt role i key =
     ap (λ h. absorb h (i ∷ key)) (absorb-append (bytes_of 4 salt) (role ∷ []) basis) ∙ sym (absorb-append (bytes_of 4 salt) (role ∷ i ∷ key) basis)
 
--- one byte more of a list
-pub absorb-more : (h : ℕ) (s : List ℕ) (i : ℕ) → i < length s → absorb h (drop i s) ≡ absorb (step h (get_or s i 0)) (drop (i + 1) s)
+-- one byte more of a list, and all of it
+pub absorb-next : (h : ℕ) (s : List ℕ) (i : ℕ) → i < length s → step (absorb h (take i s)) (get_or s i 0) ≡ absorb h (take (i + 1) s)
 unfolding absorb
-absorb-more h s i p = rw (add-one, drop-cons s i 0)
+absorb-next h s i p = rw (add-one, take-suc s i 0 p) (sym (absorb-append (take i s) (get_or s i 0 ∷ []) h))
 
--- past the end there is nothing to absorb
-pub absorb-none : (h : ℕ) (s : List ℕ) (i : ℕ) → length s ≤ i → absorb h (drop i s) ≡ h
-unfolding absorb
-absorb-none h s i p = rw drop_of_length-le
+pub absorb-whole : (h : ℕ) (s : List ℕ) (i : ℕ) → length s ≤ i → absorb h (take i s) ≡ absorb h s
+absorb-whole h s i p = ap (absorb h) (take_all i s p)
 
--- a chain that is to end at the hash of s, having taken i bytes of it: one byte more, and at the end
-pub chain-on : (s : List ℕ) (i h : ℕ) {h' : ℕ} → i < length s → absorb h (drop i s) ≡ fnv s → h' ≡ step h (get_or s i 0)
-    → absorb h' (drop (i + 1) s) ≡ fnv s
-chain-on s i h p q e = rw e (sym (absorb-more h s i p) ∙ q)
+-- four chains that each have absorbed as much of a slice of its own: one byte more, and all of it
+pub four-on : (a b c d : List ℕ) (i : ℕ) {hs next : List ℕ} → i < length a → i < length b → i < length c → i < length d
+    → hs ≡ (fnv (take i a) ∷ fnv (take i b) ∷ fnv (take i c) ∷ fnv (take i d) ∷ [])
+    → next ≡ list_upto 4 (λ j. step (get_or hs j 0) (get_or (get_or a i 0 ∷ get_or b i 0 ∷ get_or c i 0 ∷ get_or d i 0 ∷ []) j 0))
+    → next ≡ (fnv (take (i + 1) a) ∷ fnv (take (i + 1) b) ∷ fnv (take (i + 1) c) ∷ fnv (take (i + 1) d) ∷ [])
+unfolding list_upto
+four-on a b c d i p q r s e f =
+    f
+    ∙ ap (λ hs. list_upto 4 (λ j. step (get_or hs j 0) (get_or (get_or a i 0 ∷ get_or b i 0 ∷ get_or c i 0 ∷ get_or d i 0 ∷ []) j 0))) e
+    ∙ four_same (absorb-next basis a i p) (absorb-next basis b i q) (absorb-next basis c i r) (absorb-next basis d i s)
 
-pub chain-end : (s : List ℕ) (i h : ℕ) → length s ≤ i → absorb h (drop i s) ≡ fnv s → h ≡ fnv s
-chain-end s i h p q = sym (absorb-none h s i p) ∙ q
-
-pub all_then : (hs : List ℕ) (b : ℕ) (s : List ℕ) → absorb_all (absorb_all hs (b ∷ [])) s ≡ absorb_all hs (b ∷ s)
-unfolding absorb_all absorb
-all_then [] b s = refl
-all_then (h ∷ hs) b s = ap (absorb (step h b) s ∷◌) (all_then hs b s)
-
-pub all_more : (hs : List ℕ) (s : List ℕ) (i : ℕ) → i < length s → absorb_all hs (drop i s) ≡ absorb_all (absorb_all hs (get_or s i 0 ∷ []))
-    (drop (i + 1) s)
-all_more hs s i p = rw (add-one, all_then, drop-cons s i 0)
-
-all_nothing : (hs : List ℕ) → absorb_all hs [] ≡ hs
-unfolding absorb_all absorb
-all_nothing [] = refl
-all_nothing (h ∷ hs) = ap (h ∷◌) (all_nothing hs)
-
-pub all_none : (hs : List ℕ) (s : List ℕ) (i : ℕ) → length s ≤ i → absorb_all hs (drop i s) ≡ hs
-all_none hs s i p = rw (drop_of_length-le s p) (all_nothing hs)
+pub four-whole : (a b c d : List ℕ) (i : ℕ) {hs : List ℕ} → length a ≤ i → length b ≤ i → length c ≤ i → length d ≤ i
+    → hs ≡ (fnv (take i a) ∷ fnv (take i b) ∷ fnv (take i c) ∷ fnv (take i d) ∷ [])
+    → hs ≡ (fnv a ∷ fnv b ∷ fnv c ∷ fnv d ∷ [])
+four-whole a b c d i p q r s e =
+    e ∙ four_same (absorb-whole basis a i p) (absorb-whole basis b i q) (absorb-whole basis c i r) (absorb-whole basis d i s)
 
 -- states are below 2 ^ 32
 pub step-lt : (h b : ℕ) → step h b < 2 ^ 32
@@ -88,13 +80,6 @@ product_lt a b p q =
     let le : a * b ≤ 4294967295 * 4294967295 = mul-le-mul {n₂ = 4294967295} {m₂ = 4294967295} (omega arith) (omega arith) in
     omega arith
 
--- four bytes of a number, one by one
-pub absorb-word : (h x : ℕ) {a b c d : ℕ} → a ≡ step h (x / 2 ^ 24 % 256) → b ≡ step a (x / 2 ^ 16 % 256) → c ≡ step b (x / 2 ^ 8 % 256)
-    → d ≡ step c (x % 256) → d ≡ absorb h (bytes_of 4 x)
-unfolding absorb bytes_of
-absorb-word h x p q r s = rw (s, r, q, p)
-    (ap (λ y. step (step (step (step h (x / 2 ^ 24 % 256)) (x / 2 ^ 16 % 256)) (x / 2 ^ 8 % 256)) (y % 256)) (sym (div-one x)))
-
 -- salt and role, one after the other
 pub role-after : (salt role : ℕ) {a b : ℕ} → a ≡ absorb basis (bytes_of 4 salt) → b ≡ step a role → b ≡ after_role salt role
 unfolding absorb after_role
@@ -116,23 +101,39 @@ pub chain-after : (salt role i : ℕ) (key : List ℕ) {h a b : ℕ} → h ≡ a
 unfolding hash_after absorb
 chain-after salt role i key e p q = rw (q, p, e) (hash-after salt role i key)
 
--- four chains, each with its index, end at four hashes
+-- chains that each have their index, and then a key byte by byte
+pub chains-begin : (n h : ℕ) (key : List ℕ) {hs : List ℕ} → hs ≡ list_upto n (step h) → hs ≡ list_upto n (λ i. hash_after h i (take 0 key))
+unfolding hash_after absorb
+chains-begin n h key e = e
+
+pub chains-on : (n h : ℕ) (key : List ℕ) (k : ℕ) {hs next : List ℕ} → k < length key → hs ≡ list_upto n (λ i. hash_after h i (take k key))
+    → next ≡ list_upto n (λ i. step (get_or hs i 0) (get_or (replicate n (get_or key k 0)) i 0))
+    → next ≡ list_upto n (λ i. hash_after h i (take (k + 1) key))
+unfolding hash_after absorb
+chains-on n h key k {hs} p e f =
+    f
+    ∙ list_same n (λ i. step (get_or hs i 0) (get_or (replicate n (get_or key k 0)) i 0)) (λ i. hash_after h i (take (k + 1) key))
+    (λ i l.
+    ap₂ step (ap (λ s. get_or s i 0) e ∙ list_at n (λ j. hash_after h j (take k key)) 0 i l) (get_or-replicate n i (get_or key k 0) 0 l)
+    ∙ absorb-next (step h i) key k p)
+
+pub chains-end : (n h : ℕ) (key : List ℕ) (k : ℕ) {hs : List ℕ} → length key ≤ k → hs ≡ list_upto n (λ i. hash_after h i (take k key))
+    → hs ≡ list_upto n (λ i. hash_after h i key)
+chains-end n h key k p e = e ∙ ap (λ s. list_upto n (λ i. hash_after h i s)) (take_all k key p)
+
+-- which are 01's, from the state after salt and role
+pub hashes_after : (n salt role : ℕ) (key : List ℕ) {h : ℕ} {hs : List ℕ} → h ≡ after_role salt role
+    → hs ≡ list_upto n (λ i. hash_after h i key)
+    → hs ≡ list_upto n (λ i. hash_of salt role i key)
+hashes_after n salt role key e f = f ∙ list_same n _ _ (λ i l. rw e (hash-after salt role i key))
+
+-- chains from any index on: four with the key absorbed are four hashes, and n of them are 01's
 pub all-hashed : (h first : ℕ) (key : List ℕ) {hs : List ℕ} → hs ≡ list_upto 4 (λ i. step h (first + i))
     → absorb_all hs key ≡ list_upto 4 (λ i. hash_after h (first + i) key)
 unfolding list_upto absorb_all hash_after absorb
 all-hashed h first key e = ap (λ hs. absorb_all hs key) e
 
--- which are 01's, from the state after salt and role
-pub all_after : (salt role first : ℕ) (key : List ℕ) {h : ℕ} {hs : List ℕ} → h ≡ after_role salt role
-    → hs ≡ list_upto 4 (λ i. hash_after h (first + i) key)
-    → hs ≡ list_upto 4 (λ i. hash_of salt role (first + i) key)
-unfolding list_upto
-all_after salt role first key e f =
-    rw (
-      f,
-      e,
-      hash-after salt role (first + 0) key,
-      hash-after salt role (first + 1) key,
-      hash-after salt role (first + 2) key,
-      hash-after salt role (first + 3) key,
-    )
+pub all_after : (n salt role first : ℕ) (key : List ℕ) {h : ℕ} {hs : List ℕ} → h ≡ after_role salt role
+    → hs ≡ list_upto n (λ i. hash_after h (first + i) key)
+    → hs ≡ list_upto n (λ i. hash_of salt role (first + i) key)
+all_after n salt role first key e f = f ∙ list_same n _ _ (λ i l. rw e (hash-after salt role (first + i) key))

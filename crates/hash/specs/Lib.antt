@@ -1,5 +1,5 @@
 -- What the crate's contracts cite.
+pub mod Chains
 pub mod Fnv
-pub mod Lanes
 pub mod Places
 pub mod Salted

@@ -2,16 +2,19 @@
 // Four chains, or eight, run beside each other, over one key or over a slice each, since one chain alone waits for its multiply at every byte.
 #![tactic(auto)]
 
-ghost use Rattle.std.specs.Prelude.{◌≡◌, ◌∷◌, [], ◌+◌, ◌*◌, ◌≤◌, ◌<◌, length};
+ghost use Rattle.std.specs.Prelude.{◌≡◌, ◌∷◌, [], ◌+◌, ◌*◌, ◌≤◌, ◌<◌, length, slice_index};
 ghost use Rattle.laws.specs.BigEndian.{bytes_of};
 ghost use Rattle.laws.specs.Upto.{list_upto};
-ghost use Rattle.layout.specs.Sizes.{Lays, Ranged};
+ghost use Rattle.layout.specs.Sizes.{Ranged};
 ghost use Rattle.hash.specs.Fnv.{step, absorb, basis, fnv};
-ghost use Rattle.hash.specs.Lanes.{states, absorb_all};
 ghost use Rattle.hash.specs.Salted.{hash_after, after_salt};
 ghost use Rattle.hash.specs.Places.{cell_of, bits_of};
 
-use layout::{Layout, Sizes};
+use layout::{Shape, Sizes};
+
+const BASIS: u32 = 2166136261;
+
+const PRIME: u32 = 16777619;
 
 // The hash's state: a value that takes one byte and gives the next state.
 #[derive(Clone, Copy)]
@@ -23,16 +26,15 @@ impl Fnv {
     pub fn new() -> Fnv
         ensures { result.state ≡ basis }
     {
-        Fnv { state: 2166136261 }
+        Fnv { state: BASIS }
     }
 
+    #[tactic(auto, unfolding(crate::specs::Fnv::step))]
     pub fn byte(self, b: u8) -> Fnv
         ensures { result.state ≡ step self.state b }
     {
-        let x = self.state ^ (b as u32);
-        let p = (x as u64) * 16777619;
         Fnv {
-            state: (p % 4294967296) as u32,
+            state: (self.state ^ u32::from(b)).wrapping_mul(PRIME),
         }
     }
 
@@ -40,91 +42,43 @@ impl Fnv {
     pub fn word(self, x: u32) -> Fnv
         ensures { result.state ≡ absorb self.state (bytes_of 4 x) }
     {
-        self.byte(((x >> 24) % 256) as u8)
-            .byte(((x >> 16) % 256) as u8)
-            .byte(((x >> 8) % 256) as u8)
-            .byte((x % 256) as u8)
+        self.bytes(&x.to_be_bytes())
     }
 
     pub fn bytes(self, s: &[u8]) -> Fnv
         ensures { result.state ≡ absorb self.state s.now }
     {
         let mut f = self;
-        let mut i = 0;
-        while i < s.len() {
-            f = f.byte(s[i]);
-            i += 1;
+        for &b in s {
+            f = f.byte(b);
         }
         f
     }
 }
 
-// Four chains.
-#[derive(Clone, Copy)]
-pub struct Lanes {
-    pub a: Fnv,
-    pub b: Fnv,
-    pub c: Fnv,
-    pub d: Fnv,
-}
+// ---- chains beside each other, each kept as its state
 
-impl Lanes {
-    fn new() -> Lanes
-        ensures { states result ≡ basis ∷ basis ∷ basis ∷ basis ∷ [] }
-    {
-        Lanes {
-            a: Fnv::new(),
-            b: Fnv::new(),
-            c: Fnv::new(),
-            d: Fnv::new(),
-        }
+// Each chain takes a byte of its own.
+fn step_each<const N: usize>(states: [u32; N], bytes: [u8; N]) -> [u32; N]
+    ensures { result ≡ list_upto N (λ i. step (slice_index states.entry i) (slice_index bytes.entry i)) }
+{
+    let mut next = [0; N];
+    for i in 0..N {
+        let chain = Fnv { state: states[i] };
+        next[i] = chain.byte(bytes[i]).state;
     }
-
-    // Each chain takes a byte of its own.
-    fn each(self, w: u8, x: u8, y: u8, z: u8) -> Lanes
-        ensures { states result ≡ step self.a.state w ∷ step self.b.state x ∷ step self.c.state y ∷ step self.d.state z ∷ [] }
-    {
-        let a = self.a;
-        let b = self.b;
-        let c = self.c;
-        let d = self.d;
-        Lanes {
-            a: a.byte(w),
-            b: b.byte(x),
-            c: c.byte(y),
-            d: d.byte(z),
-        }
-    }
-
-    fn byte(self, x: u8) -> Lanes
-        ensures { states result ≡ absorb_all (states self) (x ∷ []) }
-    {
-        self.each(x, x, x, x)
-    }
-
-    fn bytes(self, s: &[u8]) -> Lanes
-        ensures { states result ≡ absorb_all (states self) s.now }
-    {
-        let mut f = self;
-        let mut i = 0;
-        while i < s.len() {
-            f = f.byte(s[i]);
-            i += 1;
-        }
-        f
-    }
+    next
 }
 
 // FNV-1a of four slices of one length.
-pub fn fnv_of_four(a: &[u8], b: &[u8], c: &[u8], d: &[u8]) -> Lanes
+pub fn fnv_of_four(a: &[u8], b: &[u8], c: &[u8], d: &[u8]) -> [u32; 4]
     requires { (length b.now ≡ length a.now) × (length c.now ≡ length a.now) × (length d.now ≡ length a.now) }
-    ensures { states result ≡ fnv a.now ∷ fnv b.now ∷ fnv c.now ∷ fnv d.now ∷ [] }
+    ensures { result ≡ fnv a.now ∷ fnv b.now ∷ fnv c.now ∷ fnv d.now ∷ [] }
 {
-    let mut f = Lanes::new();
-    let mut i = 0;
-    while i < a.len() {
-        f = f.each(a[i], b[i], c[i], d[i]);
-        i += 1;
+    let mut f = [BASIS; 4];
+    for i in 0..a.len() {
+        let next = step_each(f, [a[i], b[i], c[i], d[i]]);
+        f = next;
     }
     f
 }
@@ -132,7 +86,6 @@ pub fn fnv_of_four(a: &[u8], b: &[u8], c: &[u8], d: &[u8]) -> Lanes
 // ---- places, in the board group's order of work (02 c): salt and role once, then for each place the index, then the key
 
 // The states after salt and role, which a call makes once and hands on: the filter bits' hashes go on from one, the cells' from the other.
-// The salt itself goes beside them for the contracts alone.
 #[derive(Clone, Copy)]
 pub struct Salted {
     pub filter: Fnv,
@@ -149,73 +102,48 @@ pub fn after_salt(salt: u32) -> Salted
     }
 }
 
-// Then the index: one state goes on as four chains, of the indices from `first` on.
-fn indexed(f: Fnv, first: u8) -> Lanes
-    requires { first ≤ 4 }
-    ensures { states result ≡ list_upto 4 (λ i. step f.state (first + i)) }
+// Then the index: one state goes on as N chains, of the indices from 0 on.
+fn indexed<const N: usize>(f: Fnv) -> [u32; N]
+    requires { N ≤ 8 }
+    ensures { result ≡ list_upto N (λ i. step f.state i) }
 {
-    Lanes {
-        a: f.byte(first),
-        b: f.byte(first + 1),
-        c: f.byte(first + 2),
-        d: f.byte(first + 3),
+    let mut states = [0; N];
+    for i in 0..N {
+        states[i] = f.byte(i as u8).state;
     }
+    states
 }
 
-// Then the key: its hashes for four indices from `first` on.
-fn hashes(f: Fnv, first: u8, key: &[u8]) -> Lanes
-    requires { first ≤ 4 }
-    ensures { states result ≡ list_upto 4 (λ i. hash_after f.state (first + i) key.now) }
+// Then the key: its hashes for the first N indices.
+fn hashes<const N: usize>(f: Fnv, key: &[u8]) -> [u32; N]
+    requires { N ≤ 8 }
+    ensures { result ≡ list_upto N (λ i. hash_after f.state i key.now) }
 {
-    indexed(f, first).bytes(key)
-}
-
-// Eight chains.
-#[derive(Clone, Copy)]
-struct Eight {
-    low: Lanes,
-    high: Lanes,
-}
-
-// The same for the indices 0 to 7, in one pass.
-fn eight_hashes(f: Fnv, key: &[u8]) -> Eight
-    ensures { (states result.low ≡ list_upto 4 (λ i. hash_after f.state (0 + i) key.now))
-        × (states result.high ≡ list_upto 4 (λ i. hash_after f.state (4 + i) key.now)) }
-{
-    let mut low = indexed(f, 0);
-    let mut high = indexed(f, 4);
-    let mut i = 0;
-    while i < key.len() {
-        let b = key[i];
-        low = low.byte(b);
-        high = high.byte(b);
-        i += 1;
+    let mut states = indexed::<N>(f);
+    for &b in key {
+        let next = step_each(states, [b; N]);
+        states = next;
     }
-    Eight { low, high }
+    states
 }
 
 // The place of a hash among n.
+#[tactic(auto, unfolding(crate::specs::Fnv::place))]
 pub fn place(hash: u32, n: u32) -> u32
     ensures { result ≡ Rattle.hash.specs.Fnv.place hash n }
 {
-    ((hash as u64) * (n as u64) / 4294967296) as u32
+    (u64::from(hash) * u64::from(n) / 4294967296) as u32
 }
 
-// The cell that a hash of index i chooses, s cells to a part.
-fn cell_in(i: usize, s: usize, f: Fnv) -> usize
-    requires { (i < 4) × (s ≤ 384) }
-    ensures { result ≡ i * s + Rattle.hash.specs.Fnv.place f.state s }
+// The places of hashes among n.
+fn places<const N: usize>(hashes: [u32; N], n: u32) -> [usize; N]
+    ensures { result ≡ list_upto N (λ i. Rattle.hash.specs.Fnv.place (slice_index hashes.entry i) n) }
 {
-    i * s + (place(f.state, s as u32) as usize)
-}
-
-// The one cell that index i chooses for a key.
-pub fn cell_of(l: Layout, z: Sizes, salt: u32, h: Salted, i: usize, key: &[u8]) -> usize
-    requires { Lays l × Ranged z × (i < z.k) × (h ≡ after_salt salt) }
-    ensures { result ≡ cell_of l z salt key.now i }
-{
-    let f = h.cells;
-    cell_in(i, layout::part_cells(l, z), f.byte(i as u8).bytes(key))
+    let mut at = [0; N];
+    for i in 0..N {
+        at[i] = place(hashes[i], n) as usize;
+    }
+    at
 }
 
 // A flow's cells: the first k of four.
@@ -224,69 +152,74 @@ pub struct Cells {
     pub at: [usize; 4],
 }
 
-// The cells of a key.
-pub fn cells_of(l: Layout, z: Sizes, salt: u32, h: Salted, key: &[u8]) -> Cells
-    requires { Lays l × Ranged z × (h ≡ after_salt salt) }
-    ensures { result.at ≡ list_upto 4 (cell_of l z salt key.now) }
-{
-    let s = layout::part_cells(l, z);
-    let f = hashes(h.cells, 0, key);
-    Cells {
-        at: [
-            cell_in(0, s, f.a),
-            cell_in(1, s, f.b),
-            cell_in(2, s, f.c),
-            cell_in(3, s, f.d),
-        ],
-    }
-}
-
-// Four places.
-#[derive(Clone, Copy)]
-struct Four {
-    a: usize,
-    b: usize,
-    c: usize,
-    d: usize,
-}
-
 // A flow's filter bits: the first kf of eight.
 #[derive(Clone, Copy)]
 pub struct Bits {
     pub at: [usize; 8],
 }
 
-// The places of four hashes among n.
-fn places(f: Lanes, n: u32) -> Four
-    ensures { (result.a ≡ Rattle.hash.specs.Fnv.place f.a.state n)
-        × (result.b ≡ Rattle.hash.specs.Fnv.place f.b.state n)
-        × (result.c ≡ Rattle.hash.specs.Fnv.place f.c.state n)
-        × (result.d ≡ Rattle.hash.specs.Fnv.place f.d.state n) }
+// The filter bits of a key, which ask no layout. Where kf is at most 4 the other four hashes are not worked out.
+pub fn bits_of(z: Sizes, salt: u32, after: Salted, key: &[u8]) -> Bits
+    requires { Ranged z × (after ≡ after_salt salt) }
+    ensures { result.at ≡ bits_of z salt key.now }
 {
-    Four {
-        a: place(f.a.state, n) as usize,
-        b: place(f.b.state, n) as usize,
-        c: place(f.c.state, n) as usize,
-        d: place(f.d.state, n) as usize,
+    let n = z.filter_bits() as u32;
+    if z.kf <= 4 {
+        let [a, b, c, d] = places(hashes::<4>(after.filter, key), n);
+        return Bits {
+            at: [a, b, c, d, 0, 0, 0, 0],
+        };
+    }
+    Bits {
+        at: places(hashes::<8>(after.filter, key), n),
     }
 }
 
-// The filter bits of a key. Where kf is at most 4 the other four hashes are not worked out.
-pub fn bits_of(z: Sizes, salt: u32, h: Salted, key: &[u8]) -> Bits
-    requires { Ranged z × (h ≡ after_salt salt) }
-    ensures { result.at ≡ bits_of z salt key.now }
-{
-    let n = layout::filter_bits(z) as u32;
-    if z.kf <= 4 {
-        let p = places(hashes(h.filter, 0, key), n);
-        return Bits {
-            at: [p.a, p.b, p.c, p.d, 0, 0, 0, 0],
-        };
+// What places a flow: layout, sizes and salt, and the states after the salt.
+#[derive(Clone, Copy)]
+pub struct Placing {
+    pub shape: Shape,
+    pub salt: u32,
+    pub after: Salted,
+    pub ghost salted: { after ≡ after_salt salt },
+}
+
+impl Placing {
+    pub fn new(shape: Shape, salt: u32) -> Placing
+        ensures { (result.shape ≡ shape) × (result.salt ≡ salt) }
+    {
+        Placing {
+            shape,
+            salt,
+            after: after_salt(salt),
+        }
     }
-    let f = eight_hashes(h.filter, key);
-    let p = places(f.low, n);
-    let q = places(f.high, n);
-    Bits {
-        at: [p.a, p.b, p.c, p.d, q.a, q.b, q.c, q.d],
+
+    // The one cell that index i chooses for a key.
+    pub fn cell_of(self, i: usize, key: &[u8]) -> usize
+        requires { i < self.shape.sizes.k }
+        ensures { result ≡ cell_of self.shape.layout self.shape.sizes self.salt key.now i }
+    {
+        let s = self.shape.part_cells();
+        let f = self.after.cells.byte(i as u8).bytes(key);
+        i * s + place(f.state, s as u32) as usize
+    }
+
+    // The cells of a key.
+    pub fn cells_of(self, key: &[u8]) -> Cells
+        ensures { result.at ≡ list_upto 4 (cell_of self.shape.layout self.shape.sizes self.salt key.now) }
+    {
+        let s = self.shape.part_cells();
+        let [a, b, c, d] = places(hashes::<4>(self.after.cells, key), s as u32);
+        Cells {
+            at: [a, s + b, 2 * s + c, 3 * s + d],
+        }
+    }
+
+    // The filter bits of a key.
+    pub fn bits_of(self, key: &[u8]) -> Bits
+        ensures { result.at ≡ bits_of self.shape.sizes self.salt key.now }
+    {
+        bits_of(self.shape.sizes, self.salt, self.after, key)
     }
 }

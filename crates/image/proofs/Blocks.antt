@@ -20,11 +20,10 @@ use Rattle.layout.specs.declared.Sizes.{Sizes}
 use Rattle.layout.specs.Sizes.{Lays, table_cells, filter_bytes, blocks}
 use Rattle.layout.proofs.Ranges.{blocks-high}
 use Rattle.laws.specs.Zeros.{all_zero}
-use Rattle.reading.specs.declared.Reading.TheVariants.{Image}
 use Rattle.block.specs.Block.{block, padded, block_of, image_of, zero_bytes, block_at}
 use Rattle.sealing.specs.Seal.{Sealable}
 use Rattle.form.specs.Form.{kind_of, cells_formed}
-use Rattle.reading.specs.Read.{read_of, filter_in, cells_in}
+use Rattle.reading.specs.Read.{image_with, read_of, filter_in, cells_in}
 use Rattle.block.proofs.Lengths.{length-padded, length-block}
 use Rattle.block.proofs.Cells.{cells-fill, used-long}
 use Rattle.form.proofs.Form.{Formed, is-formed, form-facts}
@@ -124,7 +123,7 @@ module _ (l : Layout) (lays : Lays l) (z : Sizes) (filter cells : List ℕ) (s :
           slots = slot-back kind z n salt slot p small_slot;
         })
 
-    pub image-back : read_of l (image_of l z salt slot filter cells) slot ≡ Image z salt
+    pub image-back : read_of l (image_of l z salt slot filter cells) slot ≡ image_with z salt
     image-back =
         accepts l z salt slot (image_of l z salt slot filter cells)
         (record { sizes = s.sizes; whole = length-image l z salt slot filter cells lays; each = passes })

@@ -4,6 +4,7 @@ use Prim.Native.Nat.{ℕ}
 use lib.ListN.{length}
 use borrow.Author.Tests.{eq-eqb}
 use Rattle.laws.proofs.Bools.{and_i}
+use Rattle.std.specs.Prelude.{Ok, Err}
 use Rattle.layout.specs.declared.Layout.{Layout}
 use Rattle.layout.specs.declared.Sizes.{Sizes}
 use Rattle.layout.specs.Sizes.{filter_bytes, in_range}
@@ -12,39 +13,42 @@ use Rattle.parts.specs.Sides as sides
 use Rattle.rounds.specs.Rounds.{Ended, exchange_sides, pair}
 use Rattle.rounds.specs.Joined.{seam, switch_of}
 use Rattle.exchange.specs.Exchange.{room_a, room_b, joined, after_test, exchange_of, leaves, answer_of, side_of, room_left, exchange_number}
-use Rattle.ending.specs.declared.Ending.{Ending}
-use Rattle.ending.specs.declared.Ending.TheVariants as end
+use Rattle.ending.specs.declared.Switch.{Switch}
+use Rattle.ending.specs.declared.Switch.TheVariants as switch
+use Rattle.ending.specs.Over.{Ending}
 use Rattle.exchange.proofs.Rooms.{joined-fits, joined-a, joined-b}
 use Rattle.exchange.proofs.Tests.{tested-passed}
-use Rattle.theory.specs.Session.{stop_number}
+use Rattle.theory.specs.Session.{Stop, damage, stop_number}
 use Rattle.theory.specs.Exchange as theory
 use Rattle.link.specs.Held.{Lent}
 use Rattle.demands.specs.Calls.{Live, live, with_listed, viewed, switch_at, Passing}
 use Rattle.joint.specs.Exchanges.{listed_a, listed_b, twelves_of, exchange_on, exchanged_a, exchanged_b, pair_before, pair_after}
 use Rattle.demands.proofs.Steps.{tests-pass}
-use Rattle.joint.proofs.Pairs.{EndShows, ending_as, exchange-shows}
+use Rattle.joint.proofs.Pairs.{EndShows, stopped_as, ending_as, exchange-shows}
 
 -- the numbers of an answer
 answer-a : (o : Ending) (a b t n : ℕ) → listed_a (answer_of o a b t) n ≡ a
-answer-a end.Settled a b t n = refl
-answer-a (end.DamagedA c) a b t n = refl
-answer-a (end.DamagedB c) a b t n = refl
+answer-a (Ok done) a b t n = refl
+answer-a (Err d) a b t n = refl
 
 answer-b : (o : Ending) (a b t n : ℕ) → listed_b (answer_of o a b t) n ≡ b
-answer-b end.Settled a b t n = refl
-answer-b (end.DamagedA c) a b t n = refl
-answer-b (end.DamagedB c) a b t n = refl
+answer-b (Ok done) a b t n = refl
+answer-b (Err d) a b t n = refl
 
 answer-twelves : (o : Ending) (a b t : ℕ) → twelves_of (answer_of o a b t) ≡ t
-answer-twelves end.Settled a b t = refl
-answer-twelves (end.DamagedA c) a b t = refl
-answer-twelves (end.DamagedB c) a b t = refl
+answer-twelves (Ok done) a b t = refl
+answer-twelves (Err d) a b t = refl
 
 -- 01's number for the theory's ending
 abbrev pub end_number : theory.Ending → ℕ
 end_number theory.finished = 0
 end_number (theory.stopped_a s) = stop_number s
 end_number (theory.stopped_b s) = stop_number s
+
+-- it is the number of the stop, at either switch
+number-stopped : (w : Switch) (s : Stop) → stop_number s ≡ end_number (stopped_as w s)
+number-stopped switch.A s = refl
+number-stopped switch.B s = refl
 
 -- lists of a session's lengths are its room
 lent-rooms : (l : Layout) (z : Sizes) (m : Memory) → Lent l z m.table m.packets m.list → length m.filter ≡ filter_bytes z → Rooms l z m
@@ -151,9 +155,8 @@ module _ (l : Layout) (u v : Live) (pu : Passing l u) (pv : Passing l v) (slots 
   switch-b = ap (switch_at l) live-b
 
   number_is : (o : Ending) (a b t : ℕ) → exchange_number (answer_of o a b t) ≡ end_number (ending_as l A u.room.filter B v.room.filter o)
-  number_is end.Settled a b t = refl
-  number_is (end.DamagedA c) a b t = refl
-  number_is (end.DamagedB c) a b t = refl
+  number_is (Ok x) a b t = refl
+  number_is (Err d) a b t = number-stopped d.switch (damage d.cell)
 
   -- Theorem: and it answers with the theory's number
   pub exchange-number : exchange_number (exchange_on l u v).answer ≡ end_number result.ending

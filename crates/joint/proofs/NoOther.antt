@@ -6,6 +6,7 @@ use Prim.Native.Nat.{ℕ, ◌*◌, ◌^◌, ◌<◌}
 use native.Mathlib.Omega.{arith}
 use borrow.Author.Tests.{lt-ltb, le-ltb}
 use lib.ListN.{length, replicate, length-replicate}
+use Rattle.std.specs.Prelude.{Result, Ok}
 use Rattle.laws.specs.BigEndian.{Bytes}
 use Rattle.laws.specs.Upto.{list_upto}
 use Rattle.layout.specs.declared.Layout.{Layout}
@@ -19,7 +20,7 @@ use Rattle.summary.specs.declared.Report.{Report}
 use Rattle.summary.specs.declared.State.{State}
 use Rattle.summary.specs.declared.State.TheVariants.{Stuck, Short, Stray, Whole}
 use Rattle.session.specs.Calls.{report_in}
-use Rattle.session.specs.declared.Reported.TheVariants.{Told}
+use Rattle.session.specs.declared.SessionError.{SessionError}
 use Rattle.meaning.specs.Meaning as encoder
 use Rattle.meaning.specs.View.{cell_at, table_of, placement_of, switch_of}
 use Rattle.meaning.proofs.Meaning.{packets-mean}
@@ -53,7 +54,7 @@ whole-as Stuck e = absurd (let q : ◌≡◌ {A = ℕ} 0 1 = cc in omega arith)
 whole-as Short e = absurd (let q : ◌≡◌ {A = ℕ} 0 1 = cc in omega arith)
 whole-as Stray e = absurd (let q : ◌≡◌ {A = ℕ} 0 1 = cc in omega arith)
 
-told-report : {a b : Report} → Told a ≡ Told b → a ≡ b
+told-report : {a b : Report} → ◌≡◌ {A = Result Report SessionError} (Ok a) (Ok b) → a ≡ b
 told-report e = cc
 
 -- cells of the right length as the theory's table

@@ -13,22 +13,23 @@ use lib.ListN.{length}
 use Rattle.laws.specs.Upto.{list_upto, each_upto}
 use Rattle.laws.proofs.Bools.{split, and-f}
 use Rattle.laws.proofs.Upto.{length-list}
+use Rattle.std.specs.Prelude.{Result, Ok, Err}
 use Rattle.layout.specs.declared.Layout.{Layout}
 use Rattle.layout.specs.Sizes.{table_cells}
 use Rattle.list.specs.Records.{Records, key_at}
-use Rattle.peeling.specs.declared.Stop.{Stop}
-use Rattle.peeling.specs.declared.Stop.TheVariants as stop
+use Rattle.peeling.specs.Peel.{Stop}
 use Rattle.test8.proofs.Answers.{passed}
 use Rattle.test8.proofs.Passed.{listed-few}
-use Rattle.handing.specs.declared.Handed.{Handed}
-use Rattle.handing.specs.declared.Handed.TheVariants.{Taken, NotInFilter, Listed, EmptyCell, TooMany}
+use Rattle.handing.specs.declared.HandError.{HandError}
+use Rattle.handing.specs.declared.HandError.TheVariants.{NotInFilter, Listed, EmptyCell, TooMany}
 use Rattle.handing.specs.Hand.{hand_of, hand_number, twelve_by}
 use Rattle.parts.specs.Sides as sides
 use Rattle.parts.specs.Sides.{Side, settle_side, Given, given, hand_at, hand_keys, hand_list, with_given}
 use Rattle.ending.specs.Over as over
 use Rattle.rounds.specs.Rounds as lists
-use Rattle.ending.specs.declared.Ending.TheVariants as end
-use Rattle.ending.specs.declared.Ending.{Ending}
+use Rattle.ending.specs.Over.{Ending}
+use Rattle.ending.specs.declared.Switch.{Switch as Which}
+use Rattle.ending.specs.declared.Switch.TheVariants as switch
 use Rattle.theory.specs.Encode.{Key}
 use Rattle.theory.specs.Session.{Session, keys_of}
 use Rattle.theory.specs.Session as theory
@@ -56,12 +57,29 @@ module _ (w : Switch) (x : Key) where
   twelves-more [] s = omega arith
   twelves-more (y ∷ xs) s = let before = twelves-more xs (hand_over w y s) in omega arith
 
-twelve-is : (a : Handed) → twelve_by a ≡ cond (eqb (hand_number a) 12) 1 0
-twelve-is Taken = refl
-twelve-is NotInFilter = refl
-twelve-is Listed = refl
-twelve-is EmptyCell = refl
-twelve-is TooMany = refl
+twelve-is : (a : Result Unit HandError) → twelve_by a ≡ cond (eqb (hand_number a) 12) 1 0
+twelve-is (Ok x) = refl
+twelve-is (Err NotInFilter) = refl
+twelve-is (Err Listed) = refl
+twelve-is (Err EmptyCell) = refl
+twelve-is (Err TooMany) = refl
+
+-- a stop at one of the two switches, as the theory has it
+abbrev pub stopped_as : Which → theory.Stop → exchange.Ending
+stopped_as switch.A s = exchange.stopped_a s
+stopped_as switch.B s = exchange.stopped_b s
+
+-- which ends the exchange
+stopped-goes : (go : exchange.Pair → exchange.Exchanged) (q : exchange.Pair) (u : exchange.Exchanged) (w : Which) (s : theory.Stop)
+    → exchange.go_on go q u (stopped_as w s) ≡ u
+unfolding exchange.go_on
+stopped-goes go q u switch.A s = refl
+stopped-goes go q u switch.B s = refl
+
+stopped-rounds : (a b : Switch) (m : ℕ) (u : exchange.Exchanged) (w : Which) (s : theory.Stop) → exchange.then_rounds a b m u (stopped_as w s) ≡ u
+unfolding exchange.then_rounds
+stopped-rounds a b m u switch.A s = refl
+stopped-rounds a b m u switch.B s = refl
 
 -- the keys of the first n records
 keys-are : (l : Layout) (rs : Records) (n : ℕ) → keys_of (records_of l n rs) ≡ list_upto n (key_at l rs.keys)
@@ -170,9 +188,8 @@ module _ (l : Layout) where
 
     -- how it ended, as the theory has it
     abbrev pub ending_as : Ending → exchange.Ending
-    ending_as end.Settled = exchange.finished
-    ending_as (end.DamagedA c) = exchange.stopped_a (theory.damage c)
-    ending_as (end.DamagedB c) = exchange.stopped_b (theory.damage c)
+    ending_as (Ok done) = exchange.finished
+    ending_as (Err d) = stopped_as d.switch (theory.damage d.cell)
 
     pub record EndShows (e : lists.Ended) (r : exchange.Exchanged) : Type 0 where
       pub pair-shows : PairShows e.pair r.pair
@@ -181,18 +198,18 @@ module _ (l : Layout) where
     -- B's settling ended so, after A's
     after-b : (a : Side) (s : Session) (b : Side) (t : Session) (m n : ℕ) → m ≡ n → SideShows A a s → SideShows B b t → (o : Stop)
         → EndShows (lists.ended (over.ending_b o) (lists.pair a b m)) (exchange.after_b s t n (stop_of o))
-    after-b a s b t m n e ha hb (stop.Done i) = record { pair-shows = record { shows-a = ha; shows-b = hb; twelves-are = e }; ends_as = refl }
-    after-b a s b t m n e ha hb (stop.Damaged i c) = record { pair-shows = record { shows-a = ha; shows-b = hb; twelves-are = e }; ends_as = refl }
+    after-b a s b t m n e ha hb (Ok i) = record { pair-shows = record { shows-a = ha; shows-b = hb; twelves-are = e }; ends_as = refl }
+    after-b a s b t m n e ha hb (Err d) = record { pair-shows = record { shows-a = ha; shows-b = hb; twelves-are = e }; ends_as = refl }
 
     -- A's settling ended so
     after-a : (a : Side) (s : Session) (b : Side) (t : Session) (m n : ℕ) → m ≡ n → SideShows A a s → SideShows B b t → (o : Stop)
         → EndShows (lists.then_b l B a b m o) (exchange.after_a w_b s t n (stop_of o))
     unfolding lists.then_b
-    after-a a s b t m n e ha hb (stop.Done i) =
+    after-a a s b t m n e ha hb (Ok i) =
         subst (λ o. EndShows (lists.ended (over.ending_b (settle_side l B b).stop) (lists.pair a (settle_side l B b).left m))
         (exchange.after_b s (settle_at w_b t).state n o)) (side-stops B g b t hb)
         (after-b a s (settle_side l B b).left (settle_at w_b t).state m n e ha (side-settles B g b t hb) (settle_side l B b).stop)
-    after-a a s b t m n e ha hb (stop.Damaged i c) = record { pair-shows = record { shows-a = ha; shows-b = hb; twelves-are = e }; ends_as = refl }
+    after-a a s b t m n e ha hb (Err d) = record { pair-shows = record { shows-a = ha; shows-b = hb; twelves-are = e }; ends_as = refl }
 
     both_settle : (p : lists.Pair) (q : exchange.Pair) → PairShows p q → EndShows (lists.settle_both l A B p) (exchange.settle_both w_a w_b q)
     unfolding lists.settle_both exchange.settle_both
@@ -273,13 +290,12 @@ module _ (l : Layout) where
         → EndShows (cond (over.is_over p.a.listed p.b.listed r.pair.a.listed r.pair.b.listed o) r (more r.pair))
         (exchange.go_on go q u (ending_as o))
     unfolding over.is_over exchange.go_on
-    goes_on more go later p q h r u k longer end.Settled e =
+    goes_on more go later p q h r u k longer (Ok done) e =
         rw (over-is p q r.pair u.pair h k.pair-shows longer) (elim (split (exchange.grew q u.pair)) [
           | inl y ↦ rw y (later r.pair u.pair k.pair-shows)
           | inr y ↦ rw y k
         ])
-    goes_on more go later p q h r u k longer (end.DamagedA c) e = k
-    goes_on more go later p q h r u k longer (end.DamagedB c) e = k
+    goes_on more go later p q h r u k longer (Err d) e = subst (EndShows r) (sym (stopped-goes go q u d.switch (theory.damage d.cell))) k
 
     all-rounds : (m : ℕ) → Rounds (lists.rounds m l A f B g) (exchange.rounds w_a w_b m)
     unfolding lists.rounds exchange.rounds
@@ -294,9 +310,11 @@ module _ (l : Layout) where
     then-rounds : (r : lists.Ended) (u : exchange.Exchanged) → EndShows r u → (o : Ending) → r.ending ≡ o
         → EndShows (lists.then_rounds l A f B g r.pair o) (exchange.then_rounds w_a w_b (2 * w_a.size + 2 * w_b.size + 1) u (ending_as o))
     unfolding lists.then_rounds exchange.then_rounds
-    then-rounds r u k end.Settled e = all-rounds (lists.most_rounds l A B) r.pair u.pair k.pair-shows
-    then-rounds r u k (end.DamagedA c) e = record { pair-shows = k.pair-shows; ends_as = ap ending_as (sym e) ∙ k.ends_as }
-    then-rounds r u k (end.DamagedB c) e = record { pair-shows = k.pair-shows; ends_as = ap ending_as (sym e) ∙ k.ends_as }
+    then-rounds r u k (Ok done) e = all-rounds (lists.most_rounds l A B) r.pair u.pair k.pair-shows
+    then-rounds r u k (Err d) e =
+        subst (EndShows (lists.ended (Err d) r.pair))
+        (sym (stopped-rounds w_a w_b (2 * w_a.size + 2 * w_b.size + 1) u d.switch (theory.damage d.cell)))
+        (record { pair-shows = k.pair-shows; ends_as = ap ending_as (sym e) ∙ k.ends_as })
 
     -- Theorem: the exchange on lists of two sessions that pass the test is the theory's
     pub exchange-shows : (p : lists.Pair) (q : exchange.Pair) → PairShows p q → EndShows (lists.exchange_sides l A f B g p) (exchange.exchange w_a w_b q)

@@ -3,14 +3,16 @@ use mathlib.Core.Path.{◌≡◌, refl, ap₂, ◌∙◌}
 use mathlib.Core.Bool.{Bool, true, false, ◌&&◌}
 use Prim.Native.Nat.{ℕ}
 use lib.Dec.{eqb}
+use Rattle.std.specs.Prelude.{Ok, Err}
 use Rattle.layout.specs.declared.Layout.{Layout}
 use Rattle.layout.specs.Sizes.{in_range}
 use Rattle.layout.specs.Numbers.{Returned, only, with_twelves, with_switch}
 use Rattle.test8.specs.Test8.{is_session}
 use Rattle.room.specs.declared.Session.{Session}
 use Rattle.room.specs.Memory.{Memory}
-use Rattle.ending.specs.declared.Ending.{Ending}
-use Rattle.ending.specs.declared.Ending.TheVariants as end
+use Rattle.ending.specs.declared.Switch.{Switch}
+use Rattle.ending.specs.declared.Switch.TheVariants as switch
+use Rattle.ending.specs.Over.{Ending, switch_number}
 use Rattle.rounds.specs.Rounds.{pair}
 use Rattle.rounds.specs.Joined.{switch_of, seam, room_end}
 use Rattle.exchange.specs.Exchange.{exchange_of, after_test, exchange_returns, answer_of, areas_fit, room_a, room_b, side_of}
@@ -19,7 +21,7 @@ use Rattle.theory.specs.Session as theory
 use Rattle.theory.specs.Exchange as theory-exchange
 use Rattle.demands.specs.Calls.{Live, switch_at, Passing}
 use Rattle.joint.specs.Exchanges.{exchange_on, pair_before}
-use Rattle.joint.proofs.Pairs.{ending_as, exchange-shows}
+use Rattle.joint.proofs.Pairs.{stopped_as, ending_as, exchange-shows}
 use Rattle.joint.proofs.Exchanges.{done, exchange-passed}
 
 -- ---- exchange: 8 sizes of either, 16, 8 the rest of either, 15; the room of both is lent as one
@@ -66,15 +68,19 @@ end_returns theory-exchange.finished twelves = with_twelves 0 twelves
 end_returns (theory-exchange.stopped_a s) twelves = stopped_at 1 s twelves
 end_returns (theory-exchange.stopped_b s) twelves = stopped_at 2 s twelves
 
+-- a 14 returns the number of its switch, and the cell
+returns-stopped : (w : Switch) (c t : ℕ) → with_switch 14 (switch_number w) c t ≡ end_returns (stopped_as w (theory.damage c)) t
+returns-stopped switch.A c t = refl
+returns-stopped switch.B c t = refl
+
 module _ (l : Layout) (u v : Live) (pu : Passing l u) (pv : Passing l v) (slots : u.numbers.slot ≡ v.numbers.slot) where
   abbrev result : theory-exchange.Exchanged
   result = theory-exchange.exchange (switch_at l u) (switch_at l v) (pair_before l u v)
 
   returns_is : (o : Ending) (a b t : ℕ) → exchange_returns (answer_of o a b t)
       ≡ end_returns (ending_as l (switch_of u.numbers) u.room.filter (switch_of v.numbers) v.room.filter o) t
-  returns_is end.Settled a b t = refl
-  returns_is (end.DamagedA c) a b t = refl
-  returns_is (end.DamagedB c) a b t = refl
+  returns_is (Ok x) a b t = refl
+  returns_is (Err d) a b t = returns-stopped d.switch d.cell t
 
   pub exchange-returns : exchange_returns (exchange_on l u v).answer ≡ end_returns result.ending result.pair.twelves
   exchange-returns =

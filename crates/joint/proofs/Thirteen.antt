@@ -2,39 +2,44 @@
 -- opened and whatever calls were made.
 use mathlib.Core.Path.{◌≡◌}
 use mathlib.Core.List.{List}
+use Rattle.std.specs.Prelude.{Option, None, Some, Result, Ok, Err}
 use Prim.Native.Nat.{ℕ}
 use native.Mathlib.Omega.{arith}
 use Rattle.laws.specs.BigEndian.{Bytes}
 use Rattle.layout.specs.declared.Layout.{Layout}
 use Rattle.layout.specs.declared.Sizes.{Sizes}
 use Rattle.layout.specs.Sizes.{Lays}
-use Rattle.packet.specs.declared.Keyed.{Keyed}
-use Rattle.packet.specs.declared.Keyed.TheVariants as keyed
+use Rattle.packet.specs.declared.Key.{Key}
 use Rattle.packet.specs.Packet.{number}
-use Rattle.encoder.specs.declared.Started.{Started}
-use Rattle.encoder.specs.declared.Started.TheVariants as started
-use Rattle.encoder.specs.declared.Taken.{Taken}
-use Rattle.encoder.specs.declared.Taken.TheVariants as taken
+use Rattle.encoder.specs.declared.StartError.{StartError}
+use Rattle.encoder.specs.declared.StartError.TheVariants as start
+use Rattle.encoder.specs.declared.TakeError.{TakeError}
+use Rattle.encoder.specs.declared.TakeError.TheVariants as take
 use Rattle.encoder.specs.Encoder.{start_number, take_number}
-use Rattle.sealing.specs.declared.Sealed.{Sealed}
-use Rattle.sealing.specs.declared.Sealed.TheVariants as sealed
+use Rattle.sealing.specs.declared.SealError.{SealError}
+use Rattle.sealing.specs.declared.SealError.TheVariants as seal
 use Rattle.sealing.specs.Seal.{seal_number}
-use Rattle.reading.specs.declared.Reading.{Reading}
-use Rattle.reading.specs.declared.Reading.TheVariants as reading
+use Rattle.reading.specs.declared.ReadError.{ReadError}
+use Rattle.reading.specs.declared.ReadError.TheVariants as read
+use Rattle.reading.specs.declared.Image.{Image}
 use Rattle.reading.specs.Read.{read_of, read_number}
-use Rattle.opening.specs.declared.Opened.{Opened}
-use Rattle.opening.specs.declared.Opened.TheVariants as opened
+use Rattle.opening.specs.declared.OpenError.{OpenError}
+use Rattle.opening.specs.declared.OpenError.TheVariants as opening
+use Rattle.room.specs.declared.Session.{Session}
 use Rattle.opening.specs.Open.{open_number}
-use Rattle.session.specs.declared.HandOver.{HandOver}
-use Rattle.session.specs.declared.HandOver.TheVariants as over
-use Rattle.session.specs.declared.Settled.{Settled}
-use Rattle.session.specs.declared.Settled.TheVariants as settled
-use Rattle.session.specs.declared.Reported.{Reported}
-use Rattle.session.specs.declared.Reported.TheVariants as reported
+use Rattle.reading.specs.Read.{image_with}
+use Rattle.handing.specs.declared.HandError.TheVariants as hand
+use Rattle.session.specs.Errors.{session_number}
+use Rattle.session.specs.declared.HandOverError.{HandOverError}
+use Rattle.session.specs.declared.HandOverError.TheVariants as over
+use Rattle.session.specs.declared.SettleError.{SettleError}
+use Rattle.session.specs.declared.SettleError.TheVariants as settled
+use Rattle.session.specs.declared.SessionError.{SessionError}
+use Rattle.session.specs.declared.SessionError.TheVariants as session
+use Rattle.summary.specs.declared.Report.{Report}
 use Rattle.session.specs.Calls.{hand_over_number, settle_number, report_number}
-use Rattle.exchange.specs.declared.Exchanged.{Exchanged}
-use Rattle.exchange.specs.declared.Exchanged.TheVariants as exchanged
-use Rattle.exchange.specs.Exchange.{exchange_number}
+use Rattle.exchange.specs.declared.ExchangeError.TheVariants as exchange
+use Rattle.exchange.specs.Exchange.{Exchanged, exchange_number}
 use Rattle.theory.specs.Family.{two, family_of, one_pair}
 use Rattle.theory.specs.Fits.{Fits}
 use Rattle.theory.specs.Thirteen.{Never13, ExchangeNever13}
@@ -50,72 +55,68 @@ use Rattle.joint.proofs.History.{history-passing}
 
 -- ---- no call's answer has the number
 -- Theorem: of the ten calls of 01
-pub key-13 : (a : Keyed) → number a ≡ 13 → ⊥
-key-13 (keyed.Flow key) e = omega arith
-key-13 keyed.Refused e = omega arith
+pub key-13 : (a : Option Key) → number a ≡ 13 → ⊥
+key-13 (Some key) e = omega arith
+key-13 None e = omega arith
 
-pub start-13 : (a : Started) → start_number a ≡ 13 → ⊥
-start-13 started.Done e = omega arith
-start-13 started.BadSizes e = omega arith
-start-13 started.BadRoom e = omega arith
+pub start-13 : (a : Result Unit StartError) → start_number a ≡ 13 → ⊥
+start-13 (Ok x) e = omega arith
+start-13 (Err start.BadSizes) e = omega arith
+start-13 (Err start.BadRoom) e = omega arith
 
-pub packet-13 : (a : Taken) → take_number a ≡ 13 → ⊥
-packet-13 taken.Done e = omega arith
-packet-13 taken.BadSizes e = omega arith
-packet-13 taken.BadRoom e = omega arith
-packet-13 taken.NoKey e = omega arith
-packet-13 taken.Full e = omega arith
+pub packet-13 : (a : Result Unit TakeError) → take_number a ≡ 13 → ⊥
+packet-13 (Ok x) e = omega arith
+packet-13 (Err take.BadSizes) e = omega arith
+packet-13 (Err take.BadRoom) e = omega arith
+packet-13 (Err take.NoKey) e = omega arith
+packet-13 (Err take.Full) e = omega arith
 
-pub seal-13 : (a : Sealed) → seal_number a ≡ 13 → ⊥
-seal-13 sealed.Done e = omega arith
-seal-13 sealed.BadSizes e = omega arith
-seal-13 sealed.BadRoom e = omega arith
-seal-13 sealed.BadZero e = omega arith
+pub seal-13 : (a : Result Unit SealError) → seal_number a ≡ 13 → ⊥
+seal-13 (Ok x) e = omega arith
+seal-13 (Err seal.BadSizes) e = omega arith
+seal-13 (Err seal.BadRoom) e = omega arith
+seal-13 (Err seal.BadZero) e = omega arith
 
-pub read-13 : (a : Reading) → read_number a ≡ 13 → ⊥
-read-13 (reading.Image z salt) e = omega arith
-read-13 reading.Length e = omega arith
-read-13 (reading.Check n) e = omega arith
-read-13 (reading.Form n) e = omega arith
-read-13 (reading.Mixed n) e = omega arith
-read-13 reading.Stale e = omega arith
+pub read-13 : (a : Result Image ReadError) → read_number a ≡ 13 → ⊥
+read-13 (Ok i) e = omega arith
+read-13 (Err read.Length) e = omega arith
+read-13 (Err (read.Check n)) e = omega arith
+read-13 (Err (read.Form n)) e = omega arith
+read-13 (Err (read.Mixed n)) e = omega arith
+read-13 (Err read.Stale) e = omega arith
 
-pub open-13 : (a : Opened) → open_number a ≡ 13 → ⊥
-open-13 (opened.Open s) e = omega arith
-open-13 opened.Length e = omega arith
-open-13 (opened.Check n) e = omega arith
-open-13 (opened.Form n) e = omega arith
-open-13 (opened.Mixed n) e = omega arith
-open-13 opened.Stale e = omega arith
-open-13 opened.BadRoom e = omega arith
+pub open-13 : (a : Result Session OpenError) → open_number a ≡ 13 → ⊥
+open-13 (Ok s) e = omega arith
+open-13 (Err (opening.Read x)) e = read-13 (Err x) e
+open-13 (Err opening.BadRoom) e = omega arith
 
-pub hand-over-13 : (a : HandOver) → hand_over_number a ≡ 13 → ⊥
-hand-over-13 (over.Done n) e = omega arith
-hand-over-13 over.NotSession e = omega arith
-hand-over-13 over.NotInFilter e = omega arith
-hand-over-13 over.Listed e = omega arith
-hand-over-13 over.EmptyCell e = omega arith
-hand-over-13 over.TooMany e = omega arith
-hand-over-13 over.BadRoom e = omega arith
+session-13 : (x : SessionError) → session_number x ≡ 13 → ⊥
+session-13 session.NotSession e = omega arith
+session-13 session.BadRoom e = omega arith
 
-pub settle-13 : (a : Settled) → settle_number a ≡ 13 → ⊥
-settle-13 (settled.Done n) e = omega arith
-settle-13 (settled.Damaged n c) e = omega arith
-settle-13 settled.NotSession e = omega arith
-settle-13 settled.BadRoom e = omega arith
+pub hand-over-13 : (a : Result ℕ HandOverError) → hand_over_number a ≡ 13 → ⊥
+hand-over-13 (Ok n) e = omega arith
+hand-over-13 (Err (over.Session x)) e = session-13 x e
+hand-over-13 (Err (over.Hand hand.NotInFilter)) e = omega arith
+hand-over-13 (Err (over.Hand hand.Listed)) e = omega arith
+hand-over-13 (Err (over.Hand hand.EmptyCell)) e = omega arith
+hand-over-13 (Err (over.Hand hand.TooMany)) e = omega arith
 
-pub report-13 : (a : Reported) → report_number a ≡ 13 → ⊥
-report-13 (reported.Told r) e = omega arith
-report-13 reported.NotSession e = omega arith
-report-13 reported.BadRoom e = omega arith
+pub settle-13 : (a : Result ℕ SettleError) → settle_number a ≡ 13 → ⊥
+settle-13 (Ok n) e = omega arith
+settle-13 (Err (settled.Damaged d)) e = omega arith
+settle-13 (Err (settled.Session x)) e = session-13 x e
+
+pub report-13 : (a : Result Report SessionError) → report_number a ≡ 13 → ⊥
+report-13 (Ok r) e = omega arith
+report-13 (Err x) e = session-13 x e
 
 pub exchange-13 : (a : Exchanged) → exchange_number a ≡ 13 → ⊥
-exchange-13 (exchanged.Done a b twelves) e = omega arith
-exchange-13 (exchanged.DamagedA c a b twelves) e = omega arith
-exchange-13 (exchanged.DamagedB c a b twelves) e = omega arith
-exchange-13 exchanged.NotSession e = omega arith
-exchange-13 exchanged.OtherSlot e = omega arith
-exchange-13 exchanged.BadRoom e = omega arith
+exchange-13 (Ok lists) e = omega arith
+exchange-13 (Err (exchange.Damaged switch c lists)) e = omega arith
+exchange-13 (Err exchange.NotSession) e = omega arith
+exchange-13 (Err exchange.OtherSlot) e = omega arith
+exchange-13 (Err exchange.BadRoom) e = omega arith
 
 -- ---- and none would come where it was given
 -- sessions that pass the test of 8
@@ -132,7 +133,7 @@ module _ (l : Layout) where
   both-13 u t p q = theory-exchange.exchange-never-13 (switch_at l u) (switch_at l t) (pair_before l u t) (passing-fits u p) (passing-fits t q)
 
 -- an image that is read, clean, damaged or made up, and any hand-overs, settlings and exchanges since it was opened, in any order; u is what stands
-module _ (l : Layout) (lays : Lays l) (image : List ℕ) (bytes : Bytes image) (slot : ℕ) (z : Sizes) (salt : ℕ) (e : read_of l image slot ≡ reading.Image z salt)
+module _ (l : Layout) (lays : Lays l) (image : List ℕ) (bytes : Bytes image) (slot : ℕ) (z : Sizes) (salt : ℕ) (e : read_of l image slot ≡ image_with z salt)
     (u : Live) (h : History l (opened_live l z salt slot image) u) where
   standing : Passing l u
   standing = history-passing l (opened_live l z salt slot image) (image-passing l lays image bytes slot z salt e) h

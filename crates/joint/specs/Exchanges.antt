@@ -1,38 +1,34 @@
 -- What the theorems of this crate say: the exchange call on two sessions as the theory sees it.
-use Rattle.std.specs.Prelude.{ℕ}
+use Rattle.std.specs.Prelude.{ℕ, Ok, Err}
 use Rattle.layout.specs.declared.Layout.{Layout}
 use Rattle.room.specs.declared.Session.{Session}
-use Rattle.exchange.specs.declared.Exchanged.{Exchanged}
-use Rattle.exchange.specs.declared.Exchanged.TheVariants as exchanged
-use Rattle.exchange.specs.Exchange.{Exchanging, exchange_of, joined, room_a, room_b}
+use Rattle.exchange.specs.declared.ExchangeError.TheVariants.{NotSession, BadRoom, OtherSlot, Damaged}
+use Rattle.exchange.specs.Exchange.{Exchanged, Exchanging, exchange_of, joined, room_a, room_b}
 use Rattle.rounds.specs.Joined.{seam}
 use Rattle.theory.specs.Exchange.{Pair}
 use Rattle.demands.specs.Calls.{Live, live, with_listed, viewed}
 
 -- the flows that each session lists after an exchange, and the answers 12 in it; a refusal lists no more than before and counts none
 abbrev pub listed_a : Exchanged → ℕ → ℕ
-listed_a (exchanged.Done a b twelves) n = a
-listed_a (exchanged.DamagedA c a b twelves) n = a
-listed_a (exchanged.DamagedB c a b twelves) n = a
-listed_a exchanged.NotSession n = n
-listed_a exchanged.BadRoom n = n
-listed_a exchanged.OtherSlot n = n
+listed_a (Ok lists) n = lists.a
+listed_a (Err (Damaged switch c lists)) n = lists.a
+listed_a (Err NotSession) n = n
+listed_a (Err BadRoom) n = n
+listed_a (Err OtherSlot) n = n
 
 abbrev pub listed_b : Exchanged → ℕ → ℕ
-listed_b (exchanged.Done a b twelves) n = b
-listed_b (exchanged.DamagedA c a b twelves) n = b
-listed_b (exchanged.DamagedB c a b twelves) n = b
-listed_b exchanged.NotSession n = n
-listed_b exchanged.BadRoom n = n
-listed_b exchanged.OtherSlot n = n
+listed_b (Ok lists) n = lists.b
+listed_b (Err (Damaged switch c lists)) n = lists.b
+listed_b (Err NotSession) n = n
+listed_b (Err BadRoom) n = n
+listed_b (Err OtherSlot) n = n
 
 abbrev pub twelves_of : Exchanged → ℕ
-twelves_of (exchanged.Done a b twelves) = twelves
-twelves_of (exchanged.DamagedA c a b twelves) = twelves
-twelves_of (exchanged.DamagedB c a b twelves) = twelves
-twelves_of exchanged.NotSession = 0
-twelves_of exchanged.BadRoom = 0
-twelves_of exchanged.OtherSlot = 0
+twelves_of (Ok lists) = lists.twelves
+twelves_of (Err (Damaged switch c lists)) = lists.twelves
+twelves_of (Err NotSession) = 0
+twelves_of (Err BadRoom) = 0
+twelves_of (Err OtherSlot) = 0
 
 -- the call on two sessions whose room is joined, and what stands then, as the theory sees it
 abbrev pub exchange_on : Layout → Live → Live → Exchanging

@@ -1,5 +1,5 @@
 -- Request m of document 02 about the calls: an image is opened, calls follow, and the report says whole.
-use Rattle.std.specs.Prelude.{◌≡◌, List, ℕ}
+use Rattle.std.specs.Prelude.{◌≡◌, List, ℕ, Ok}
 use Rattle.laws.specs.BigEndian.{Bytes}
 use Rattle.layout.specs.declared.Layout.{Layout}
 use Rattle.layout.specs.declared.Sizes.{Sizes}
@@ -7,9 +7,7 @@ use Rattle.layout.specs.Sizes.{table_cells}
 use Rattle.reading.specs.Read.{cells_in}
 use Rattle.room.specs.Memory.{Memory}
 use Rattle.opening.specs.Open.{open_of, opening}
-use Rattle.opening.specs.declared.Opened.TheVariants.{Open}
 use Rattle.session.specs.Calls.{report_on}
-use Rattle.session.specs.declared.Reported.TheVariants.{Told}
 use Rattle.summary.specs.declared.Report.{Report}
 use Rattle.summary.specs.declared.State.TheVariants.{Whole}
 use Rattle.meaning.specs.View.{table_of, placement_of}
@@ -21,7 +19,7 @@ use Rattle.joint.specs.History.{History}
 -- the report call says whole
 pub record SaysWhole (l : Layout) (u : Live) : Type 0 where
   pub report : Report
-  pub told : report_on l u.numbers u.room ≡ Told report
+  pub told : report_on l u.numbers u.room ≡ Ok report
   pub state-is : report.state ≡ Whole
 
 -- 02 m: "a session of any readable image reports whole": these bytes are opened, so they are read; v is what stands then, and u what stands after any
@@ -29,7 +27,7 @@ pub record SaysWhole (l : Layout) (u : Live) : Type 0 where
 pub record ReportsWhole (l : Layout) (image : List ℕ) (slot : ℕ) (v u : Live) : Type 0 where
   pub bytes : Bytes image
   pub room : Memory
-  pub opened : open_of l image slot room ≡ opening (Open v.numbers) v.room
+  pub opened : open_of l image slot room ≡ opening (Ok v.numbers) v.room
   pub since : History l v u
   pub says : SaysWhole l u
 

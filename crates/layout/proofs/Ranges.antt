@@ -1,14 +1,17 @@
 -- The test of the ranges and the facts are one; the sizes' products are small; 01's own layout is one.
-use mathlib.Core.Path.{◌≡◌}
-use mathlib.Core.Bool.{true, ◌&&◌}
+use mathlib.Core.Path.{◌≡◌, sym, ◌∙◌}
+use mathlib.Core.Bool.{true, false, ◌&&◌}
 use Prim.Native.Nat.{ℕ, ◌+◌, ◌*◌, ◌≤◌, ◌<◌, ◌/◌}
 use native.Mathlib.Nat.{mul-le-mul}
 use native.Mathlib.Omega.{arith}
 use borrow.Author.Tests.{leb-true, le-leb}
 use lib.Dec.{leb}
+use Rattle.std.specs.Prelude.{Option, Some, None, Result, Ok, Err, IfSome, is_some}
+use Rattle.std.specs.Option.{ok_or}
 use Rattle.laws.proofs.Bools.{and_l, and_r}
 use Rattle.layout.specs.declared.Layout.{Layout}
 use Rattle.layout.specs.declared.Sizes.{Sizes}
+use Rattle.layout.specs.declared.Shape.{Shape}
 use Rattle.layout.specs.Sizes.{between, in_range, Ranged, ipv4_layout, Lays, part_cells, table_cells, cell_bytes, filter_bytes, filter_bits, blocks}
 
 pub between-true : (low n high : ℕ) → between low n high ≡ true → (low ≤ n) × (n ≤ high)
@@ -104,3 +107,21 @@ bit-within z n h = omega arith
 pub blocks-high : (z : Sizes) → Ranged z → blocks z ≤ 80
 unfolding blocks
 blocks-high z r = let p = mul-le-mul {n₂ = 4} {m₂ = 16} r.k-high r.q-high in omega arith
+
+-- ---- a shape that is made, or is not: `Shape::new(l, z).ok_or(e)?`
+pub shape-made : {E : Type 0} (l : Layout) (z : Sizes) (o : Option Shape) (e : E) {r : Result Shape E} {s : Shape} → r ≡ ok_or o e → is_some o ≡ in_range z
+    → IfSome o (λ s. (s.layout ≡ l) × (s.sizes ≡ z)) → r ≡ Ok s → (in_range z ≡ true) × (s.layout ≡ l) × (s.sizes ≡ z)
+shape-made {E} l z o e {r} {s} made test parts p = go o (sym made ∙ p) test parts
+  where
+    go : (o : Option Shape) → ok_or o e ≡ Ok s → is_some o ≡ in_range z → IfSome o (λ s. (s.layout ≡ l) × (s.sizes ≡ z))
+        → (in_range z ≡ true) × (s.layout ≡ l) × (s.sizes ≡ z)
+    go (Some x) q t h = let f : x ≡ s = cc in (sym t, rw (← f) h.0, rw (← f) h.1)
+    go None q t h = cc
+
+pub shape-refused : {E : Type 0} (z : Sizes) (o : Option Shape) (e : E) {r : Result Shape E} {f : E} → r ≡ ok_or o e → is_some o ≡ in_range z → r ≡ Err f
+    → (in_range z ≡ false) × (e ≡ f)
+shape-refused {E} z o e {r} {f} made test p = go o (sym made ∙ p) test
+  where
+    go : (o : Option Shape) → ok_or o e ≡ Err f → is_some o ≡ in_range z → (in_range z ≡ false) × (e ≡ f)
+    go (Some x) q t = cc
+    go None q t = (sym t, cc)

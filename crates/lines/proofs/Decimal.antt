@@ -1,17 +1,18 @@
 -- Decimal digits: how many a number has, that they give it back, and that none stands in front for nothing.
 use mathlib.Core.Path.{◌≡◌, refl, sym, ap, ◌∙◌}
 use mathlib.Core.Bool.{Bool}
+use mathlib.Core.List.{[], ◌∷◌, ◌++◌}
 use Prim.Native.Nat.{ℕ, zero, suc, ◌+◌, ◌-◌, ◌*◌, ◌/◌, ◌%◌, ◌^◌, ◌≤◌, ◌<◌}
-use native.Mathlib.Nat.{one-le-pow, pow-succ', mod-eq_of_lt, mod-one, mul_assoc, add-mul, add_assoc, div-lt_iff_lt-mul, le-div_iff_mul-le}
+use native.Mathlib.Nat.{one-le-pow, pow-succ', div-one, div-div-eq-div-mul, mod-eq_of_lt, mod-one, mul_assoc, add-mul, add_assoc, div-lt_iff_lt-mul, le-div_iff_mul-le}
 use native.Mathlib.Decide.{dec_lt}
 use native.Mathlib.Omega.{arith}
-use borrow.Author.Tests.{lt-ltb, le-ltb, ltb-true}
+use borrow.Author.Tests.{lt-ltb, le-ltb, ltb-true, ltb-false}
 use lib.Arith.{mod-mul}
 use lib.Dec.{ltb}
 use lib.ListN.{length, get_or}
 use Rattle.laws.specs.Upto.{lowest}
 use Rattle.laws.proofs.Upto.{any-yes}
-use Rattle.laws.proofs.Lowest.{lowest-le, lowest-lt, lowest-hit, lowest-is}
+use Rattle.laws.proofs.Lowest.{lowest-le, lowest-lt, lowest-hit, lowest-is, lowest-none}
 use Rattle.lines.specs.Text.{width, digits, decimal, value_after}
 
 pub ten-pos : (w : ℕ) → 0 < 10 ^ w
@@ -52,6 +53,40 @@ unfolding width
 width_is n zero l m b a = absurd (omega arith)
 width_is n (suc w) l m b a =
     ap suc (sym (lowest-is 20 (below n) w m (lt-ltb n (10 ^ suc w) b) (λ i h. le-ltb n (10 ^ suc i) (a i (omega arith)))))
+
+-- ---- a digit more
+-- below a width one less, a number has more digits
+width-needed : (n i : ℕ) → suc i < width n → 10 ^ suc i ≤ n
+unfolding width
+width-needed n i h = ltb-false n (10 ^ suc i) (lowest-none 20 (below n) i (omega arith))
+
+tenth-needed : (n i : ℕ) → 10 ≤ n → suc i < suc (width (n / 10)) → 10 ^ suc i ≤ n
+tenth-needed n zero l q = l
+tenth-needed n (suc i) l q = let h = width-needed (n / 10) i (omega arith) in rw (pow-succ' 10 (suc i)) (omega arith)
+
+width-more : (n : ℕ) → 10 ≤ n → n < 10 ^ 20 → suc (width (n / 10)) ≡ width n
+width-more n l h =
+    let enough = width-enough (n / 10) (omega arith) in
+    let few = width-le 19 (n / 10) (omega arith) (omega arith) (omega arith) in
+    width_is n (suc (width (n / 10))) (omega arith) (omega arith) (rw (pow-succ' 10 (width (n / 10))) (omega arith)) (λ i q. tenth-needed n i l q)
+
+digits-more : (w n : ℕ) → digits (suc w) n ≡ digits w (n / 10) ++ ((48 + n % 10) ∷ [])
+unfolding digits
+digits-more zero n = rw div-one refl
+digits-more (suc w) n =
+    ap (λ (x : ℕ). (48 + x % 10) ∷ digits (suc w) n) (ap (λ (y : ℕ). n / y) (pow-succ' 10 w) ∙ sym (div-div-eq-div-mul n 10 (10 ^ w)))
+    ∙ ap (λ l. (48 + n / 10 / 10 ^ w % 10) ∷ l) (digits-more w n)
+
+-- one digit is the number, and of more the last stands behind those of a tenth
+pub decimal-digit : (n : ℕ) → n < 10 → decimal n ≡ (48 + n % 10) ∷ []
+unfolding decimal digits
+decimal-digit n h =
+    let one : 1 ≡ width n = width_is n 1 (omega arith) (omega arith) h (λ i q. absurd (omega arith)) in
+    ap (λ w. digits w n) (sym one) ∙ rw div-one refl
+
+pub decimal-more : (n : ℕ) → 10 ≤ n → n < 10 ^ 20 → decimal n ≡ decimal (n / 10) ++ ((48 + n % 10) ∷ [])
+unfolding decimal
+decimal-more n l h = ap (λ w. digits w n) (sym (width-more n l h)) ∙ digits-more (width (n / 10)) n
 
 -- ---- the digits give the number back
 digits_value : (w m n : ℕ) → value_after m (digits w n) ≡ m * 10 ^ w + n % 10 ^ w

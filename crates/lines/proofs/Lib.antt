@@ -1,6 +1,5 @@
 -- Laws of the printed lines.
 pub mod Decimal
-pub mod Loops
 pub mod Lines
 pub mod Example
 pub mod Outcomes

@@ -1,12 +1,14 @@
 -- Texts written one after the other; how long each text is.
-use mathlib.Core.Path.{◌≡◌, refl, ap, ◌∙◌}
-use mathlib.Core.Bool.{Bool, true, false}
+use mathlib.Core.Path.{◌≡◌, refl, sym, ap, ◌∙◌}
+use Rattle.std.proofs.Common.{Option, Some, None}
+use Rattle.std.specs.Option.{ForSome}
 use mathlib.Core.List.{List, [], ◌∷◌, ◌++◌}
 use Prim.Native.Nat.{ℕ, ◌+◌, ◌/◌, ◌%◌, ◌^◌, ◌≤◌, ◌<◌}
 use native.Mathlib.Nat.{add_assoc}
 use native.Mathlib.Omega.{arith}
-use lib.ListN.{length, length-append}
+use lib.ListN.{length, length-append, get_or}
 use lib.Seq.{length-sets}
+use Rattle.std.specs.Borrow.{MutBor}
 use Rattle.packet.specs.declared.Key.{Key}
 use Rattle.packet.specs.Key.{InRange}
 use Rattle.summary.specs.declared.Report.{Report}
@@ -14,6 +16,8 @@ use Rattle.summary.specs.declared.State.{State}
 use Rattle.summary.specs.declared.State.TheVariants.{Stuck, Short, Stray, Whole}
 use Rattle.lines.specs.Text.{Put, space, dot, feed, decimal, followed, spaced, dotted}
 use Rattle.lines.specs.Text.{endpoint, count_text, flow_line, state_text, report_text, head_line, refused_line}
+use Rattle.lines.specs.declared.Page.{Page}
+use Rattle.lines.specs.Page.{Holds, Adds, blank}
 use Rattle.laws.proofs.Lists.{sets-append}
 use Rattle.lines.proofs.Decimal.{decimal-le}
 
@@ -35,13 +39,40 @@ put_then {a} {b} {s} {at = at} p n = record {
 pub put_same : {a b s t : List ℕ} {at r : ℕ} → a ≡ b → Put s t at r a → Put s t at r b
 put_same e p = rw (← e) p
 
-pub count-known : {known : Bool} (count : ℕ) → known ≡ true → count_text known count ≡ decimal count
-unfolding count_text
-count-known count e = rw e
+-- ---- the same of a page
+-- where two texts have room, the first has, and after it the second
+pub holds-first : (a b : List ℕ) {p : Page} → Holds p (a ++ b) → Holds p a
+holds-first a b h = record { room = omega (arith, h.room, length-append a b) }
 
-pub count-unknown : {known : Bool} (count : ℕ) → known ≡ false → count_text known count ≡ 63 ∷ []
-unfolding count_text
-count-unknown count e = rw e
+pub holds-next : (a b : List ℕ) {p q : Page} → Adds p q a → Holds p (a ++ b) → Holds q b
+holds-next a b n h = record { room = omega (arith, h.room, n.put.place, put-length n.put, length-append a b) }
+
+pub adds-then : {p q r : Page} {a b : List ℕ} → Adds p q a → Adds q r b → Adds p r (a ++ b)
+adds-then m n = record { lent = n.lent ∙ m.lent; there = n.there ∙ m.there; put = put_then m.put n.put }
+
+-- on a page with nothing written there is room for what the buffer holds, and a text that is added stands at its start
+pub blank-holds : {out : MutBor (List ℕ)} {p : Page} (text : List ℕ) → p ≡ blank out → length text ≤ length out.now → Holds p text
+blank-holds text e h = rw e (record { room = omega arith })
+
+pub blank-put : {out : MutBor (List ℕ)} {p q : Page} {text after : List ℕ} {n : ℕ} → p ≡ blank out → Adds p q text → after ≡ q.out.now → n ≡ q.at
+    → Put out.now after 0 n text
+blank-put e a f g = rw (f, g) (rw e at a).put
+
+-- two pages that a text makes of one are one
+pub adds-same : {p q r : Page} {a : List ℕ} → Adds p q a → Adds p r a → q ≡ r
+adds-same m n =
+    let ghost_name = m.lent ∙ sym n.lent in
+    let ref_ptr = m.there ∙ sym n.there in
+    let now = m.put.bytes ∙ sym n.put.bytes in
+    let at = m.put.place ∙ sym n.put.place in
+    λ i. record { out = record { ref_ptr = ref_ptr i; ghost_name = ghost_name i; now = now i }; at = at i }
+
+-- the four numbers of an address are its bytes
+pub dotted-bytes : (a : ℕ) (s : List ℕ) → a < 2 ^ 32
+    → s ≡ (a / 16777216 % 256) ∷ (a / 65536 % 256) ∷ (a / 256 % 256) ∷ (a % 256) ∷ []
+    → dotted a ≡ followed (get_or s 0 0) dot ++ (followed (get_or s 1 0) dot ++ (followed (get_or s 2 0) dot ++ decimal (get_or s 3 0)))
+unfolding dotted
+dotted-bytes a s h e = let top : a / 16777216 % 256 ≡ a / 16777216 = omega arith in rw (e, top)
 
 -- ---- lengths, text by text
 pub length-followed : (n mark : ℕ) → length (followed n mark) ≡ length (decimal n) + 1
@@ -57,10 +88,10 @@ pub length-endpoint : (address port : ℕ) → length (endpoint address port) �
 unfolding endpoint
 length-endpoint address port = simp length-append (omega arith)
 
-pub length-flow : (key : Key) (known : Bool) (count : ℕ) → length (flow_line key known count) ≡ length (endpoint key.source key.sport)
-    + (length (endpoint key.destination key.dport) + (length (spaced key.protocol) + (length (count_text known count) + 1)))
+pub length-flow : (key : Key) (count : Option ℕ) → length (flow_line key count) ≡ length (endpoint key.source key.sport)
+    + (length (endpoint key.destination key.dport) + (length (spaced key.protocol) + (length (count_text count) + 1)))
 unfolding flow_line
-length-flow key known count = simp length-append
+length-flow key count = simp length-append
 
 pub length-state : (s : State) → length (state_text s) ≡ 5
 length-state Stuck = refl
@@ -102,21 +133,20 @@ endpoint-le : (address port : ℕ) → address < 2 ^ 32 → port < 2 ^ 16 → le
 endpoint-le address port h l =
     omega (arith, length-endpoint address port, dotted-le address h, followed-le 5 port space (omega arith) (omega arith) (omega arith))
 
-count-le : (known : Bool) (count : ℕ) → count < 2 ^ 32 → length (count_text known count) ≤ 10
-count-le true count h =
-    omega (arith, ap length (count-known {known = true} count refl), decimal-le 10 count (omega arith) (omega arith) (omega arith))
-count-le false count h = omega (arith, ap length (count-unknown {known = false} count refl))
+count-le : (count : Option ℕ) → ForSome count (λ n. n < 2 ^ 32) → length (count_text count) ≤ 10
+count-le None h = omega arith
+count-le (Some n) h = let few : n < 2 ^ 32 = h n refl in decimal-le 10 n (omega arith) (omega arith) (omega arith)
 
 -- a flow's line: two endpoints of 22, a protocol of 4, a count of 10 and a line feed
-pub flow-le : (key : Key) (known : Bool) (count : ℕ) → InRange key → count < 2 ^ 32 → length (flow_line key known count) ≤ 59
-flow-le key known count k h =
+pub flow-le : (key : Key) (count : Option ℕ) → InRange key → ForSome count (λ n. n < 2 ^ 32) → length (flow_line key count) ≤ 59
+flow-le key count k h =
     omega (
       arith,
-      length-flow key known count,
+      length-flow key count,
       endpoint-le key.source key.sport k.source k.source_port,
       endpoint-le key.destination key.dport k.destination k.destination_port,
       followed-le 3 key.protocol space (omega arith) (omega arith) (omega (arith, k.protocol)),
-      count-le known count h,
+      count-le count h,
     )
 
 -- the first line: five numbers of at most 10 digits, a space after each, a word of 5 and a line feed
@@ -135,5 +165,5 @@ head-le slot salt r a b c d e =
       number r.opens e,
     )
 
-pub refused-le : (n : ℕ) → n < 256 → length (refused_line n) ≤ 12
-refused-le n h = omega (arith, length-refused n, followed-le 3 n feed (omega arith) (omega arith) (omega arith))
+pub refused-le : (n : ℕ) → n < 2 ^ 32 → length (refused_line n) ≤ 19
+refused-le n h = omega (arith, length-refused n, followed-le 10 n feed (omega arith) (omega arith) (omega arith))

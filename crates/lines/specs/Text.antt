@@ -1,5 +1,5 @@
 -- The printed lines as bytes: 01 'Printing program', "single spaces, addresses dotted decimal". A line ends in a line feed.
-use Rattle.std.specs.Prelude.{◌≡◌, Bool, cond, List, [], ◌∷◌, ◌++◌, ℕ, zero, suc, ◌+◌, ◌-◌, ◌*◌, ◌/◌, ◌%◌, ◌^◌, ◌≤◌, ltb, length}
+use Rattle.std.specs.Prelude.{◌≡◌, Option, Some, None, List, [], ◌∷◌, ◌++◌, ℕ, zero, suc, ◌+◌, ◌-◌, ◌*◌, ◌/◌, ◌%◌, ◌^◌, ◌≤◌, ltb, length, codes}
 use Rattle.std.proofs.lemmas.List.Edits.{sets}
 use Rattle.laws.specs.Upto.{lowest}
 use Rattle.packet.specs.declared.Key.{Key}
@@ -57,21 +57,22 @@ unfoldable pub endpoint : ℕ → ℕ → List ℕ
 endpoint address port = dotted address ++ (space ∷ spaced port)
 
 -- 01 'Printing program': "count or `?`"
-unfoldable pub count_text : Bool → ℕ → List ℕ
-count_text known count = cond known (decimal count) (63 ∷ [])
+abbrev pub count_text : Option ℕ → List ℕ
+count_text None = 63 ∷ []
+count_text (Some count) = decimal count
 
 -- 01 'Printing program': "per listed flow ..: source, source port, destination, destination port, protocol, count or `?`"
-unfoldable pub flow_line : Key → Bool → ℕ → List ℕ
-flow_line key known count =
+unfoldable pub flow_line : Key → Option ℕ → List ℕ
+flow_line key count =
     endpoint key.source key.sport
-    ++ (endpoint key.destination key.dport ++ (spaced key.protocol ++ (count_text known count ++ (feed ∷ []))))
+    ++ (endpoint key.destination key.dport ++ (spaced key.protocol ++ (count_text count ++ (feed ∷ []))))
 
 -- the states as words: stuck, short, stray, whole
 abbrev pub state_text : State → List ℕ
-state_text Stuck = 115 ∷ 116 ∷ 117 ∷ 99 ∷ 107 ∷ []
-state_text Short = 115 ∷ 104 ∷ 111 ∷ 114 ∷ 116 ∷ []
-state_text Stray = 115 ∷ 116 ∷ 114 ∷ 97 ∷ 121 ∷ []
-state_text Whole = 119 ∷ 104 ∷ 111 ∷ 108 ∷ 101 ∷ []
+state_text Stuck = codes "stuck"
+state_text Short = codes "short"
+state_text Stray = codes "stray"
+state_text Whole = codes "whole"
 
 -- 01 'Printing program': "listed, counted, open and state", to the end of the line
 unfoldable pub report_text : Report → List ℕ
@@ -83,4 +84,4 @@ head_line slot salt r = spaced slot ++ (spaced salt ++ report_text r)
 
 -- 01 'Printing program': "prints only `refused` and the number"
 unfoldable pub refused_line : ℕ → List ℕ
-refused_line n = 114 ∷ 101 ∷ 102 ∷ 117 ∷ 115 ∷ 101 ∷ 100 ∷ space ∷ followed n feed
+refused_line n = codes "refused " ++ followed n feed

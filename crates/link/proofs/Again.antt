@@ -11,14 +11,11 @@ use Rattle.layout.specs.Sizes.{table_cells}
 use Rattle.hash.specs.Places.{has_cell}
 use Rattle.list.specs.Records.{Records}
 use Rattle.table.specs.Table.{Tab}
-use Rattle.peeling.specs.Peel.{Peeled, ended, peel_taken, after_peel, peels_upto, peels_of, listed_at}
-use Rattle.peeling.specs.declared.Stop.{Stop}
-use Rattle.peeling.specs.declared.Stop.TheVariants.{Done, Damaged}
+use Rattle.std.specs.Prelude.{Ok, Err}
+use Rattle.peeling.specs.Peel.{Peeled, Stop, damage, ended, peel_taken, after_peel, peels_upto, peels_of, listed_at}
 use Rattle.counting.specs.Book.{Book}
 use Rattle.counting.specs.Count as counts
 use Rattle.counting.specs.Count.{Counted, after_count, counts_upto, counts_of}
-use Rattle.counting.specs.declared.Stop as counting
-use Rattle.counting.specs.declared.Stop.TheVariants as count
 use Rattle.settling.specs.Settle.{settled, after_counts, then_counts, settle_of}
 use Rattle.test8.specs.Test8.{is_session}
 use Rattle.theory.specs.Session.{Session, unknowns_of, Step, quiet, damaged, next, peel_pure, settle}
@@ -42,27 +39,27 @@ use Rattle.link.proofs.Sessions.{session-settles, session-lent, session-again}
 -- ---- a step that stops as the theory's does
 -- how settling stops, where n flows are listed
 abbrev stop_for : ℕ → theory.Stop → Stop
-stop_for n theory.settled = Done n
-stop_for n (theory.damage c) = Damaged n c
+stop_for n theory.settled = Ok n
+stop_for n (theory.damage c) = Err (damage n c)
 
 abbrev stop_by : ℕ → Step Noted → Stop
-stop_by n quiet = Done n
-stop_by n (damaged c) = Damaged n c
-stop_by n (next s) = Done n
+stop_by n quiet = Ok n
+stop_by n (damaged c) = Err (damage n c)
+stop_by n (next s) = Ok n
 
 stop-by : (n : ℕ) (s : theory.Stop) → stop_by n (step_of s) ≡ stop_for n s
 stop-by n theory.settled = refl
 stop-by n (theory.damage c) = refl
 
 -- and so counting
-abbrev count_for : theory.Stop → counting.Stop
-count_for theory.settled = count.Done
-count_for (theory.damage c) = count.Damaged c
+abbrev count_for : theory.Stop → counts.Stop
+count_for theory.settled = Ok tt
+count_for (theory.damage c) = Err c
 
-abbrev counts_by : Step Noted → counting.Stop
-counts_by quiet = count.Done
-counts_by (damaged c) = count.Damaged c
-counts_by (next s) = count.Done
+abbrev counts_by : Step Noted → counts.Stop
+counts_by quiet = Ok tt
+counts_by (damaged c) = Err c
+counts_by (next s) = Ok tt
 
 count_by : (s : theory.Stop) → counts_by (step_of s) ≡ count_for s
 count_by theory.settled = refl
@@ -135,7 +132,7 @@ module _ (l : Layout) (z : Sizes) (salt n : ℕ) (t : Tab) (packets : List ℕ) 
       (step_is l z salt n t (started l z salt packets t rs seen) rs sound ∙ ap (map_step (noted has)) e ∙ map-stop (noted has) s)
 
   then-over : (s : theory.Stop) → theory.count_step size (has_cell l z salt) before ≡ step_of s
-      → then_counts l z salt packets t rs seen (Done n) ≡ settled (stop_for n s) t packets rs seen
+      → then_counts l z salt packets t rs seen (Ok n) ≡ settled (stop_for n s) t packets rs seen
   unfolding then_counts counts_of after_counts
   then-over theory.settled e = rw (upto-over n (unknowns-le l n rs) theory.settled e)
   then-over (theory.damage c) e = rw (upto-over n (unknowns-le l n rs) (theory.damage c) e)
@@ -146,8 +143,8 @@ module _ (l : Layout) (z : Sizes) (salt n : ℕ) (t : Tab) (packets : List ℕ) 
   settle-over s (after-peeling _ p e) = rw (peels-over theory.settled p) (then-over s e)
 
 stop-named : (a : Stop) → stop_for (listed_at a) (stop_of a) ≡ a
-stop-named (Done n) = refl
-stop-named (Damaged n c) = refl
+stop-named (Ok n) = refl
+stop-named (Err d) = refl
 
 -- Theorem: on every session that the test of 8 lets pass, settling what a settling left changes nothing and answers the same, 14 with its cell too
 pub session-still : (l : Layout) (z : Sizes) (salt n : ℕ) (t : Tab) (packets : List ℕ) (rs : Records) (seen index : List ℕ) → Lent l z t packets rs

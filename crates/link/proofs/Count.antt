@@ -24,7 +24,7 @@ use Rattle.marks.proofs.Laws.{length-put, marked-same, marked_other, words-put, 
 use Rattle.table.specs.Table.{Tab}
 use Rattle.counting.specs.Book.{Book, book, exceeds, ready_at, with_ready, ready_upto, told_out}
 use Rattle.counting.specs.Count.{Counted, counted, count_damaged, count_at, count_of}
-use Rattle.counting.specs.declared.Step.TheVariants.{Quiet, Damaged, Next}
+use Rattle.std.specs.Prelude.{Ok, Err}
 use Rattle.theory.specs.Encode.{Key, Placement}
 use Rattle.theory.specs.Session.{new_record}
 use Rattle.theory.specs.Session as theory
@@ -92,11 +92,11 @@ module _ (l : Layout) (z : Sizes) (salt n : ℕ) (flows : List ℕ) (b : Book) (
   packets_there = get_or b.packets lowest_ready 0
 
   pub data Counting : Counted → Type 0 where
-    none-ready : ltb lowest_ready (table_cells l z) ≡ false → Counting (counted Quiet b rs)
+    none-ready : ltb lowest_ready (table_cells l z) ≡ false → Counting (counted (Ok false) b rs)
     miscounted : ltb lowest_ready (table_cells l z) ≡ true → count_damaged l z salt n b.packets rs.keys position_there packets_there ≡ true
-        → Counting (counted (Damaged lowest_ready) b rs)
+        → Counting (counted (Err lowest_ready) b rs)
     made-known : ltb lowest_ready (table_cells l z) ≡ true → count_damaged l z salt n b.packets rs.keys position_there packets_there ≡ false
-        → Counting (counted Next (told_out l z salt (key_at l rs.keys position_there) packets_there position_there flows b)
+        → Counting (counted (Ok true) (told_out l z salt (key_at l rs.keys position_there) packets_there position_there flows b)
         (with_count position_there packets_there rs))
 
   pub counting : Counting (count_of l z salt n flows b rs)

@@ -20,7 +20,7 @@ use Rattle.list.proofs.Laws.{length-key}
 use Rattle.marks.specs.Marks.{marked, first_mark}
 use Rattle.table.specs.Table.{Tab, has_empty, taken_out, spot_at, Bounded}
 use Rattle.peeling.specs.Peel.{PeelRoom, Peeled, peeled, Ended, peel_damaged, peel_taken, peel_at, peel_of, after_peel, peels_upto, listed_at}
-use Rattle.peeling.specs.declared.Step.TheVariants.{Quiet, Damaged, Next}
+use Rattle.std.specs.Prelude.{Ok, Err}
 use Rattle.theory.specs.Encode.{Key, Placement}
 use Rattle.theory.specs.Session.{has_empty_cell, Step, repeat, after_step}
 use Rattle.theory.specs.Session as theory
@@ -40,10 +40,10 @@ use Rattle.laws.proofs.Rows.{row_within}
 
 -- ---- the ways a peel on lists ends
 pub data Peeling (l : Layout) (z : Sizes) (salt n : ℕ) (t : Tab) (rs : Records) (seen : List ℕ) : Peeled → Type 0 where
-  none-marked : ltb (first_mark t.marks) (table_cells l z) ≡ false → Peeling l z salt n t rs seen (peeled Quiet t rs seen)
+  none-marked : ltb (first_mark t.marks) (table_cells l z) ≡ false → Peeling l z salt n t rs seen (peeled (Ok false) t rs seen)
   broken : ltb (first_mark t.marks) (table_cells l z) ≡ true
       → peel_damaged l z salt n t.flows rs.keys (key_at l t.xors (first_mark t.marks)) ≡ true
-      → Peeling l z salt n t rs seen (peeled (Damaged (first_mark t.marks)) t rs seen)
+      → Peeling l z salt n t rs seen (peeled (Err (first_mark t.marks)) t rs seen)
   taken_out_lem : ltb (first_mark t.marks) (table_cells l z) ≡ true
       → peel_damaged l z salt n t.flows rs.keys (key_at l t.xors (first_mark t.marks)) ≡ false
       → Peeling l z salt n t rs seen (peel_taken l z salt n (key_at l t.xors (first_mark t.marks)) t rs seen)
@@ -161,7 +161,7 @@ module _ (l : Layout) (z : Sizes) (salt n : ℕ) (t : Tab) (packets : List ℕ) 
 
   -- Theorem: it meets the peel's contract, which the hollow program that rescans breaks
   pub peel-contract : PeelRoom l z n t → (seen : List ℕ) → let p = peel_of l z salt n t rs seen in
-      p.answer ≡ Next → PeelLeaves size has before (noted_of l z (n + 1) p.table packets p.list)
+      p.answer ≡ Ok true → PeelLeaves size has before (noted_of l z (n + 1) p.table packets p.list)
   peel-contract room seen e =
       let p = peel_of l z salt n t rs seen in
       let after = noted_of l z (n + 1) p.table packets p.list in

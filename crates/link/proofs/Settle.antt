@@ -18,13 +18,11 @@ use Rattle.layout.proofs.Ranges.{table-high}
 use Rattle.hash.specs.Places.{has_cell}
 use Rattle.list.specs.Records.{Records}
 use Rattle.table.specs.Table.{Tab, tab}
-use Rattle.peeling.specs.Peel.{peels_of, listed_at}
-use Rattle.peeling.specs.declared.Stop.{Stop}
-use Rattle.peeling.specs.declared.Stop.TheVariants.{Done, Damaged}
+use Rattle.std.specs.Prelude.{Ok, Err}
+use Rattle.peeling.specs.Peel.{Stop, peels_of, listed_at}
 use Rattle.counting.specs.Book.{Book, book, ready_upto}
 use Rattle.counting.specs.Count.{Ended, counts_of}
-use Rattle.counting.specs.declared.Stop as counting
-use Rattle.counting.specs.declared.Stop.TheVariants as count
+use Rattle.counting.specs.Count as counting
 use Rattle.settling.specs.Settle.{stop_after, after_counts, then_counts, settle_of}
 use Rattle.theory.specs.Encode.{Distinct, Placement}
 use Rattle.theory.specs.Session.{Session, keys_of, unknowns_of, unknowns_in, open_cells, Result, repeat, peel_pure, count_step, peels, settle}
@@ -74,12 +72,12 @@ module _ (l : Layout) (z : Sizes) (salt n : ℕ) (t : Tab) (packets : List ℕ) 
 
 -- ---- counting, after peeling
 stop-listed : (n : ℕ) (a : counting.Stop) → listed_at (stop_after n a) ≡ n
-stop-listed n count.Done = refl
-stop-listed n (count.Damaged c) = refl
+stop-listed n (Ok u) = refl
+stop-listed n (Err c) = refl
 
 stop-same : (n : ℕ) (a : counting.Stop) → stop_of (stop_after n a) ≡ count_stop a
-stop-same n count.Done = refl
-stop-same n (count.Damaged c) = refl
+stop-same n (Ok u) = refl
+stop-same n (Err c) = refl
 
 module _ (l : Layout) (z : Sizes) (salt : ℕ) (packets : List ℕ) (t : Tab) (rs : Records) (seen : List ℕ) where
   abbrev has : Placement
@@ -107,28 +105,28 @@ module _ (l : Layout) (z : Sizes) (salt : ℕ) (packets : List ℕ) (t : Tab) (r
       → settled_as l z (then_counts l z salt packets t rs seen a)
       ≡ map_result (noted has) (theory.then_counts (table_cells l z) has (session_of l z (listed_at a) t packets rs) (stop_of a))
   unfolding then_counts theory.then_counts counts_of
-  then_is (Done n) h right apart =
+  then_is (Ok n) h right apart =
       let s = session_of l z n t packets rs in
       counted_is n _ ∙ counts-is l z salt n t n started rs (record { held = h; is-ready = starts n h; right = right; apart = apart })
       ∙ ap (map_result (noted has)) (fuel-same (count_step (table_cells l z) has) (λ u. length (unknowns_of u.list))
       (count-falls (table_cells l z) has) (count-idle (table_cells l z) has) n (length (unknowns_of s.list)) s
       (unknowns-le l n rs) (le_refl _))
-  then_is (Damaged n c) h right apart = ap (stopped n (theory.damage c)) right
+  then_is (Err d) h right apart = ap (stopped d.listed (theory.damage d.cell)) right
 
   then-held : (a : Stop) → Held l z (listed_at a) t packets rs → let e = then_counts l z salt packets t rs seen a in
       Held l z (listed_at e.answer) e.table e.packets e.list
   unfolding then_counts counts_of after_counts
-  then-held (Done n) h =
+  then-held (Ok n) h =
       let e = counts_of l z salt n t.flows packets t.unknowns t.positions rs in
       subst (λ m. Held l z m (tab t.xors t.flows e.unknowns e.positions t.marks) e.packets e.list)
       (sym (stop-listed n e.answer)) (counts-held l z salt n t n started rs h (starts n h))
-  then-held (Damaged n c) h = h
+  then-held (Err d) h = h
 
   -- counting leaves the marks
   then-marks : (a : Stop) → (then_counts l z salt packets t rs seen a).table.marks ≡ t.marks
   unfolding then_counts after_counts
-  then-marks (Done n) = refl
-  then-marks (Damaged n c) = refl
+  then-marks (Ok n) = refl
+  then-marks (Err d) = refl
 
 -- ---- settling
 module _ (l : Layout) (z : Sizes) (salt n : ℕ) (t : Tab) (packets : List ℕ) (rs : Records) (seen : List ℕ) (lent : Lent l z t packets rs)

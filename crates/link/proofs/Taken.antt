@@ -20,7 +20,7 @@ use Rattle.hash.proofs.Apart.{has_within}
 use Rattle.list.specs.Records.{Records, appended}
 use Rattle.list.proofs.Laws.{room-appended}
 use Rattle.table.specs.Table.{Tab, taken_out, Spot, spot_at}
-use Rattle.table.proofs.Table.{fit-out}
+use Rattle.table.proofs.Parts.{fit-out}
 use Rattle.theory.specs.Encode.{Key, Placement, empty_table}
 use Rattle.theory.specs.Session.{Session, pure, take_out}
 use Rattle.theory.specs.Notes.{Notes, Noted, note_taken}

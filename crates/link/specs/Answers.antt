@@ -1,20 +1,12 @@
 -- The answers of the steps on lists as the theory has them.
-use Rattle.std.specs.Prelude.{◌≡◌, List, ℕ}
+use Rattle.std.specs.Prelude.{◌≡◌, true, false, List, ℕ, Ok, Err}
 use Rattle.layout.specs.declared.Layout.{Layout}
 use Rattle.layout.specs.declared.Sizes.{Sizes}
 use Rattle.layout.specs.Sizes.{table_cells}
 use Rattle.hash.specs.Places.{has_cell}
 use Rattle.table.specs.Table.{Tab, tab}
-use Rattle.peeling.specs.Peel.{Ended as PeelEnd, listed_at}
-use Rattle.counting.specs.Count.{Ended as CountEnd}
-use Rattle.peeling.specs.declared.Step.{Step as PeelStep}
-use Rattle.peeling.specs.declared.Step.TheVariants as peel
-use Rattle.peeling.specs.declared.Stop.{Stop as SettleStop}
-use Rattle.peeling.specs.declared.Stop.TheVariants as stop
-use Rattle.counting.specs.declared.Step.{Step as CountStep}
-use Rattle.counting.specs.declared.Step.TheVariants as count
-use Rattle.counting.specs.declared.Stop.{Stop as CountStop}
-use Rattle.counting.specs.declared.Stop.TheVariants as told
+use Rattle.peeling.specs.Peel.{Step as PeelStep, Stop as SettleStop, Ended as PeelEnd, listed_at}
+use Rattle.counting.specs.Count.{Step as CountStep, Stop as CountStop, Ended as CountEnd}
 use Rattle.settling.specs.Settle.{Settled}
 use Rattle.theory.specs.Session.{Step, quiet, damaged, next, Stop, settled, damage, Result, Session}
 use Rattle.theory.specs.Notes.{Noted, scan}
@@ -22,20 +14,20 @@ use Rattle.link.specs.View.{cells_of, records_of, notes_of, noted_of}
 
 -- one peel that left s
 abbrev pub peel_step : PeelStep → Noted → Step Noted
-peel_step peel.Quiet s = quiet
-peel_step (peel.Damaged c) s = damaged c
-peel_step peel.Next s = next s
+peel_step (Ok false) s = quiet
+peel_step (Err c) s = damaged c
+peel_step (Ok true) s = next s
 
 -- one count step that left s
 abbrev pub count_step : CountStep → Noted → Step Noted
-count_step count.Quiet s = quiet
-count_step (count.Damaged c) s = damaged c
-count_step count.Next s = next s
+count_step (Ok false) s = quiet
+count_step (Err c) s = damaged c
+count_step (Ok true) s = next s
 
 -- how settling ended
 abbrev pub stop_of : SettleStop → Stop
-stop_of (stop.Done n) = settled
-stop_of (stop.Damaged n c) = damage c
+stop_of (Ok n) = settled
+stop_of (Err d) = damage d.cell
 
 -- what peeling leaves: how it ended, cells, list, marks and per-cell numbers
 abbrev pub ended_as : Layout → Sizes → List ℕ → PeelEnd → Result Noted
@@ -43,8 +35,8 @@ ended_as l z packets e = record { state = noted_of l z (listed_at e.answer) e.ta
 
 -- and counting, over the table t
 abbrev pub count_stop : CountStop → Stop
-count_stop told.Done = settled
-count_stop (told.Damaged c) = damage c
+count_stop (Ok u) = settled
+count_stop (Err c) = damage c
 
 abbrev pub counted_as : Layout → Sizes → ℕ → Tab → CountEnd → Result Noted
 counted_as l z n t e = record {

@@ -21,8 +21,13 @@ use Rattle.layout.specs.declared.Layout.{Layout}
 use Rattle.layout.specs.declared.Sizes.{Sizes}
 use Rattle.layout.specs.Sizes.{Lays, Ranged, table_cells}
 use Rattle.layout.proofs.Ranges.{table-high, cell-high}
+use Rattle.list.specs.declared.Found.{Found}
+use Rattle.list.specs.Found.{FoundKept}
 use Rattle.list.specs.Records.{Records, Room, key_at, is_known, is_handed, handed_in, peeled_in, same_bytes, is_listed, appended, known_at, with_count}
+use Rattle.laws.proofs.Bools.{split, clash}
 use Rattle.laws.proofs.Rows.{row_within}
+use Rattle.std.proofs.lemmas.Slice.Eq.{bytes_eq-Decides}
+use Rattle.std.specs.Cmp.Lexicographic.{pointwise}
 
 -- ---- keys
 pub same-is : (a b : List ℕ) → length a ≡ length b → same_bytes a b ≡ true → a ≡ b
@@ -33,6 +38,18 @@ same-is a b e h =
 pub same_self : (a : List ℕ) → same_bytes a a ≡ true
 unfolding same_bytes
 same_self a = all_yes (length a) (λ j. eqb (get_or a j 0) (get_or a j 0)) (λ j l. eq-eqb (get_or a j 0) (get_or a j 0) refl)
+
+-- what == says of two keys of one length
+pub same-decided : (a b : List ℕ) → length a ≡ length b → pointwise eqb a b ≡ same_bytes a b
+same-decided a b e =
+    let decides = bytes_eq-Decides a b in
+    elim (split (same_bytes a b)) [
+      | inl h ↦ decides.1 (same-is a b e h) ∙ sym h
+      | inr h ↦ elim (split (pointwise eqb a b)) [
+        | inl p ↦ clash (rw (← decides.0 p) (same_self a)) h
+        | inr p ↦ p ∙ sym h
+      ]
+    ]
 
 module _ (l : Layout) (keys : List ℕ) where
   pub length-key : (i : ℕ) → i * l.key + l.key ≤ length keys → length (key_at l keys i) ≡ l.key
@@ -89,6 +106,13 @@ past-appended l n key flag rs i e h = (
   get_or-set_other rs.counts n i 0 0 (λ f. absurd (omega arith)),
   get_or-set_other rs.flags n i flag 0 (λ f. absurd (omega arith)),
 )
+
+-- ---- the three slices that are lent
+pub found-self : (f : Found) → FoundKept f f
+found-self f = (refl, refl, refl, refl, refl, refl)
+
+pub found-on : (f g h : Found) → FoundKept f g → FoundKept g h → FoundKept f h
+found-on f g h k m = (k.0 ∙ m.0, k.1 ∙ m.1, k.2 ∙ m.2, k.3 ∙ m.3, k.4 ∙ m.4, k.5 ∙ m.5)
 
 -- ---- lengths
 pub key-inside : {l : Layout} {m : ℕ} {rs : Records} (n : ℕ) → Room l m rs → n < m → n * l.key + l.key ≤ length rs.keys

@@ -11,15 +11,15 @@ use Rattle.laws.proofs.Upto.{length-list}
 use Rattle.layout.specs.declared.Layout.{Layout}
 use Rattle.layout.specs.declared.Sizes.{Sizes}
 use Rattle.layout.specs.Sizes.{Lays, Ranged, table_cells, blocks}
-use Rattle.reading.specs.declared.Reading.{Reading}
-use Rattle.reading.specs.declared.Reading.TheVariants as read
-use Rattle.reading.specs.Read.{read_of}
+use Rattle.reading.specs.declared.Image.{Image}
+use Rattle.reading.specs.declared.ReadError.{ReadError}
+use Rattle.reading.specs.Read.{read_of, image_with}
+use Rattle.std.proofs.Common.{Result, Ok, Err}
 use Rattle.room.specs.declared.Session.{Session}
 use Rattle.room.specs.Memory.{Memory, Rooms, room_fits}
 use Rattle.test8.specs.Test8.{is_session}
 use Rattle.test8.proofs.Passed.{opened-passes}
-use Rattle.opening.specs.declared.Opened.TheVariants.{Open}
-use Rattle.opening.specs.Open.{xors_in, flows_in, packets_in, marks_of, opened_memory, opening, open_read, open_of, open_number}
+use Rattle.opening.specs.Open.{xors_in, flows_in, packets_in, marks_of, opened_memory, opened_session, opening, open_read, open_of, open_number}
 use Rattle.opening.proofs.Copies.{length-filter, length-xors}
 use Rattle.opening.proofs.Pure.{length-marks, marks-right, marks-end}
 use Rattle.opening.proofs.Returns.{open-filled}
@@ -61,7 +61,7 @@ module _ (l : Layout) (z : Sizes) (salt : ℕ) (image : List ℕ) where
 -- ---- what the answers say
 -- the session that opening answers with
 pub record OpenDone (l : Layout) (image : List ℕ) (slot : ℕ) (m : Memory) (s : Session) : Type 0 where
-  pub read_is : read_of l image slot ≡ read.Image s.sizes s.salt
+  pub read_is : read_of l image slot ≡ image_with s.sizes s.salt
   pub slot_is : s.slot ≡ slot
   pub none-listed : s.listed ≡ 0
   pub fitted : room_fits l s.sizes m ≡ true
@@ -69,20 +69,20 @@ pub record OpenDone (l : Layout) (image : List ℕ) (slot : ℕ) (m : Memory) (s
 
 module _ (l : Layout) (image : List ℕ) (slot : ℕ) (m : Memory) where
   -- an image that is read, into room that fits, is opened
-  pub open-read : (z : Sizes) (salt : ℕ) → read_of l image slot ≡ read.Image z salt → room_fits l z m ≡ true
-      → open_of l image slot m ≡ opening (Open (record { sizes = z; salt = salt; slot = slot; listed = 0 })) (opened_memory l z salt image)
-  open-read z salt e h = sym (open-filled l image slot m {r = read.Image z salt} (sym e) refl h refl)
+  pub open-read : (z : Sizes) (salt : ℕ) → read_of l image slot ≡ image_with z salt → room_fits l z m ≡ true
+      → open_of l image slot m ≡ opening (Ok (opened_session z salt slot)) (opened_memory l z salt image)
+  open-read z salt e h = sym (open-filled l image slot m (sym e) h refl)
 
-  done-read : (s : Session) (r : Reading) → (open_read l slot image m r).answer ≡ Open s
-      → (r ≡ read.Image s.sizes s.salt) × (s.slot ≡ slot) × (s.listed ≡ 0) × (room_fits l s.sizes m ≡ true)
+  done-read : (s : Session) (r : Result Image ReadError) → (open_read l slot image m r).answer ≡ Ok s
+      → (r ≡ image_with s.sizes s.salt) × (s.slot ≡ slot) × (s.listed ≡ 0) × (room_fits l s.sizes m ≡ true)
       × ((open_read l slot image m r).room ≡ opened_memory l s.sizes s.salt image)
   unfolding open_read
-  done-read s (read.Image z salt) e = elim (split (room_fits l z m)) [
+  done-read s (Ok i) e = elim (split (room_fits l i.sizes m)) [
     | inl h ↦
-        let o : Session = record { sizes = z; salt = salt; slot = slot; listed = 0 } in
-        let f : Open o ≡ Open s = rw h at e in
+        let o : Session = opened_session i.sizes i.salt slot in
+        let f : Ok o ≡ Ok s = rw h at e in
         let q : o ≡ s = cc in (
-          ap (λ (x : Session). read.Image x.sizes x.salt) q,
+          ap (λ (x : Session). image_with x.sizes x.salt) q,
           ap (λ (x : Session). x.slot) (sym q),
           ap (λ (x : Session). x.listed) (sym q),
           ap (λ (x : Session). room_fits l x.sizes m) (sym q) ∙ h,
@@ -90,29 +90,21 @@ module _ (l : Layout) (image : List ℕ) (slot : ℕ) (m : Memory) where
         )
     | inr h ↦ let f = ap open_number (rw h at e) in absurd (omega arith)
   ]
-  done-read s read.Length e = absurd (omega (arith, ap open_number e))
-  done-read s (read.Check n) e = absurd (omega (arith, ap open_number e))
-  done-read s (read.Form n) e = absurd (omega (arith, ap open_number e))
-  done-read s (read.Mixed n) e = absurd (omega (arith, ap open_number e))
-  done-read s read.Stale e = absurd (omega (arith, ap open_number e))
+  done-read s (Err x) e = cc
 
-  pub open_done : (s : Session) → (open_of l image slot m).answer ≡ Open s → OpenDone l image slot m s
+  pub open_done : (s : Session) → (open_of l image slot m).answer ≡ Ok s → OpenDone l image slot m s
   unfolding open_of
   open_done s e =
       let d = done-read s (read_of l image slot) e in
       record { read_is = d.0; slot_is = d.1; none-listed = d.2; fitted = d.3; room-is = d.4 }
 
-  kept_read : (r : Reading) → 0 < open_number (open_read l slot image m r).answer → (open_read l slot image m r).room ≡ m
+  kept_read : (r : Result Image ReadError) → 0 < open_number (open_read l slot image m r).answer → (open_read l slot image m r).room ≡ m
   unfolding open_read
-  kept_read (read.Image z salt) h = elim (split (room_fits l z m)) [
+  kept_read (Ok i) h = elim (split (room_fits l i.sizes m)) [
     | inl e ↦ let f = rw e at h in absurd (omega arith)
     | inr e ↦ rw e
   ]
-  kept_read read.Length h = refl
-  kept_read (read.Check n) h = refl
-  kept_read (read.Form n) h = refl
-  kept_read (read.Mixed n) h = refl
-  kept_read read.Stale h = refl
+  kept_read (Err x) h = refl
 
   -- any other answer leaves the room as it was
   pub open_kept : 0 < open_number (open_of l image slot m).answer → (open_of l image slot m).room ≡ m

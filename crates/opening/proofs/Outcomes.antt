@@ -3,8 +3,18 @@ use mathlib.Core.Path.{refl, sym, ap, ◌∙◌}
 use Rattle.laws.specs.Outcomes.{Determined}
 use Rattle.laws.proofs.Outcomes.{both}
 use Rattle.opening.specs.Open.{Opening}
+use Rattle.opening.proofs.OpenError.number.Kinds as number-kinds
+use Rattle.opening.proofs.OpenError.number.Reads as number
+use Rattle.opening.proofs.OpenError.block.Kinds as block-kinds
+use Rattle.opening.proofs.OpenError.block.Reads as block
 use Rattle.opening.proofs.open_in.Kinds as open-in-kinds
 use Rattle.opening.proofs.open_in.Reads as open_in
+
+pub number-determined : Determined _ number-kinds.ps number-kinds.r number.Asked number.Learnt
+number-determined κs a p z z' ws ws' e e' = (e ∙ sym e', refl)
+
+pub block-determined : Determined _ block-kinds.ps block-kinds.r block.Asked block.Learnt
+block-determined κs a p z z' ws ws' e e' = (e ∙ sym e', refl)
 
 pub open-in-determined : Determined _ open-in-kinds.ps open-in-kinds.r open_in.Asked open_in.Learnt
 open-in-determined κs a p z z' ws ws' e e' = let f = e ∙ sym e' in (

@@ -1,20 +1,21 @@
 -- Opening: 01 'A session', "Opening copies the cells and the filter into lent room and zeroes the list".
-use Rattle.std.specs.Prelude.{not, cond, List, ℕ, ◌*◌, replicate}
+use Rattle.std.specs.Prelude.{not, cond, List, ℕ, ◌*◌, replicate, Result, Ok, Err}
 use Rattle.laws.specs.Upto.{each_upto, list_upto, join_upto}
 use Rattle.layout.specs.declared.Layout.{Layout}
 use Rattle.layout.specs.declared.Sizes.{Sizes}
 use Rattle.layout.specs.Sizes.{table_cells}
-use Rattle.layout.specs.Numbers.{Returned, only, with_block}
+use Rattle.layout.specs.Numbers.{Returned, only}
 use Rattle.cell.specs.Cell.{flow_xor_at, flow_count_at, packet_count_at}
-use Rattle.reading.specs.declared.Reading.{Reading}
-use Rattle.reading.specs.declared.Reading.TheVariants as read
-use Rattle.reading.specs.Read.{read_of, filter_in, cells_in}
+use Rattle.reading.specs.declared.Image.{Image}
+use Rattle.reading.specs.declared.ReadError.{ReadError}
+use Rattle.reading.specs.Read.{read_of, filter_in, cells_in, error_returns}
 use Rattle.list.specs.Records.{records}
 use Rattle.marks.specs.Marks.{words_for, put_mark}
 use Rattle.table.specs.Table.{tab, pure_at}
 use Rattle.room.specs.Memory.{Memory, memory, room_fits}
-use Rattle.opening.specs.declared.Opened.{Opened}
-use Rattle.opening.specs.declared.Opened.TheVariants.{Open, Length, Check, Form, Mixed, Stale, BadRoom}
+use Rattle.room.specs.declared.Session.{Session}
+use Rattle.opening.specs.declared.OpenError.{OpenError}
+use Rattle.opening.specs.declared.OpenError.TheVariants.{Read, BadRoom}
 
 -- FlowXOR, FlowCount and PacketCount of the cells that an image holds
 unfoldable pub xors_in : Layout → Sizes → List ℕ → List ℕ
@@ -42,48 +43,50 @@ opened_memory l z salt image =
 
 -- what opening answers, and the lent room afterwards
 pub record Opening : Type 0 where
-  pub answer : Opened
+  pub answer : Result Session OpenError
   pub room : Memory
 
-abbrev pub opening : Opened → Memory → Opening
+abbrev pub opening : Result Session OpenError → Memory → Opening
 opening answer m = record { answer = answer; room = m }
 
+-- the session of an image just opened: no flow is listed
+abbrev pub opened_session : Sizes → ℕ → ℕ → Session
+opened_session z salt slot = record { sizes = z; salt = salt; slot = slot; listed = 0 }
+
 -- 01's table of numbers, 1 to 5: where no image is read, the answer is reading's; an image that is read can be refused for its room alone
-abbrev pub refused : Reading → Opened
-refused (read.Image z salt) = BadRoom
-refused read.Length = Length
-refused (read.Check n) = Check n
-refused (read.Form n) = Form n
-refused (read.Mixed n) = Mixed n
-refused read.Stale = Stale
+abbrev pub refused : Result Image ReadError → Result Session OpenError
+refused (Ok i) = Err BadRoom
+refused (Err e) = Err (Read e)
 
 -- 01's table of numbers, 16: "in opening, after 1 to 5"; "all kept"
-unfoldable pub open_read : Layout → ℕ → List ℕ → Memory → Reading → Opening
-open_read l slot image m (read.Image z salt) =
-    cond (not (room_fits l z m)) (opening BadRoom m)
-    (opening (Open (record { sizes = z; salt = salt; slot = slot; listed = 0 })) (opened_memory l z salt image))
-open_read l slot image m read.Length = opening Length m
-open_read l slot image m (read.Check n) = opening (Check n) m
-open_read l slot image m (read.Form n) = opening (Form n) m
-open_read l slot image m (read.Mixed n) = opening (Mixed n) m
-open_read l slot image m read.Stale = opening Stale m
+unfoldable pub open_read : Layout → ℕ → List ℕ → Memory → Result Image ReadError → Opening
+open_read l slot image m (Ok i) =
+    cond (not (room_fits l i.sizes m)) (opening (Err BadRoom) m)
+    (opening (Ok (opened_session i.sizes i.salt slot)) (opened_memory l i.sizes i.salt image))
+open_read l slot image m (Err e) = opening (Err (Read e)) m
 
 -- opening an image that is wanted of a slot
 unfoldable pub open_of : Layout → List ℕ → ℕ → Memory → Opening
 open_of l image slot m = open_read l slot image m (read_of l image slot)
 
--- 01's number and values for each answer
-abbrev pub open_returns : Opened → Returned
-open_returns (Open s) = only 0
-open_returns Length = only 1
-open_returns (Check n) = with_block 2 n
-open_returns (Form n) = with_block 3 n
-open_returns (Mixed n) = with_block 4 n
-open_returns Stale = only 5
-open_returns BadRoom = only 16
+-- 01's number and values for each refusal
+abbrev pub open_error_returns : OpenError → Returned
+open_error_returns (Read e) = error_returns e
+open_error_returns BadRoom = only 16
 
-abbrev pub open_number : Opened → ℕ
+abbrev pub open_error_number : OpenError → ℕ
+open_error_number e = (open_error_returns e).number
+
+abbrev pub open_error_block : OpenError → ℕ
+open_error_block e = (open_error_returns e).block
+
+-- and for each answer
+abbrev pub open_returns : Result Session OpenError → Returned
+open_returns (Ok s) = only 0
+open_returns (Err e) = open_error_returns e
+
+abbrev pub open_number : Result Session OpenError → ℕ
 open_number a = (open_returns a).number
 
-abbrev pub open_block : Opened → ℕ
+abbrev pub open_block : Result Session OpenError → ℕ
 open_block a = (open_returns a).block

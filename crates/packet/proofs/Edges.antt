@@ -6,7 +6,7 @@ use lib.ListN.{replicate}
 use Rattle.laws.specs.BigEndian.{number_of}
 use Rattle.fields.specs.Field.{field}
 use Rattle.packet.specs.Packet.{version, header_words, header_bytes, protocol, fragment_offset, has_ports, refused, key_of, number, port, key_in}
-use Rattle.packet.specs.declared.Keyed.TheVariants.{Flow}
+use Rattle.std.specs.Prelude.{Some}
 
 -- n bytes of version 4, with a header of 5 words, of the given protocol, else zero
 abbrev packet : ℕ → ℕ → List ℕ
@@ -21,6 +21,6 @@ unfolding version header_words header_bytes protocol fragment_offset has_ports r
 edges = (refl, refl, refl, refl)
 
 -- 01 'Keys and hashing': "All zeros is an ordinary key"
-pub all-zeros : key_of (packet 20 0) ≡ Flow (record { source = 0; destination = 0; sport = 0; dport = 0; protocol = 0 })
+pub all-zeros : key_of (packet 20 0) ≡ Some (record { source = 0; destination = 0; sport = 0; dport = 0; protocol = 0 })
 unfolding version header_words header_bytes protocol fragment_offset has_ports refused port key_in key_of number_of field
 all-zeros = refl

@@ -3,10 +3,10 @@ use mathlib.Core.Path.{refl, sym, ◌∙◌}
 use Rattle.laws.specs.Outcomes.{Determined}
 use Rattle.packet.proofs.key_of.Kinds as key-of-kinds
 use Rattle.packet.proofs.key_of.Reads as key_of
-use Rattle.packet.proofs.key_bytes.Kinds as key-bytes-kinds
-use Rattle.packet.proofs.key_bytes.Reads as key-bytes
-use Rattle.packet.proofs.key_from.Kinds as key-from-kinds
-use Rattle.packet.proofs.key_from.Reads as key-from
+use Rattle.packet.proofs.ArrayU813FromKey.from.Kinds as key-bytes-kinds
+use Rattle.packet.proofs.ArrayU813FromKey.from.Reads as key-bytes
+use Rattle.packet.proofs.KeyFromRefArrayU813.from.Kinds as key-from-kinds
+use Rattle.packet.proofs.KeyFromRefArrayU813.from.Reads as key-from
 
 pub key-of-determined : Determined _ key-of-kinds.ps key-of-kinds.r key_of.Asked key_of.Learnt
 key-of-determined κs a p z z' ws ws' e e' = (e ∙ sym e', refl)

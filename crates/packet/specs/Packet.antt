@@ -1,9 +1,7 @@
 -- From a packet's bytes to its key or to refusal 6. 01 'Keys and hashing': "A packet starts at its IPv4 header (RFC 791)".
-use Rattle.std.specs.Prelude.{Bool, cond, not, ◌&&◌, ◌||◌, List, ℕ, ◌+◌, ◌-◌, ◌*◌, ◌/◌, ◌%◌, ◌^◌, eqb, ltb, length, get_or}
+use Rattle.std.specs.Prelude.{Bool, Option, None, Some, cond, not, ◌&&◌, ◌||◌, List, ℕ, ◌+◌, ◌-◌, ◌*◌, ◌/◌, ◌%◌, ◌^◌, eqb, ltb, length, get_or}
 use Rattle.fields.specs.Field.{field}
 use Rattle.packet.specs.declared.Key.{Key}
-use Rattle.packet.specs.declared.Keyed.{Keyed}
-use Rattle.packet.specs.declared.Keyed.TheVariants.{Flow, Refused}
 
 -- RFC 791, version: the high 4 bits of byte 0
 unfoldable pub version : List ℕ → ℕ
@@ -54,10 +52,10 @@ key_in packet =
     }
 
 -- 01 'Keys and hashing': "It yields either a key or refusal 6"
-unfoldable pub key_of : List ℕ → Keyed
-key_of packet = cond (refused packet) Refused (Flow (key_in packet))
+unfoldable pub key_of : List ℕ → Option Key
+key_of packet = cond (refused packet) None (Some (key_in packet))
 
 -- 01 'A session', the table of numbers: 0 done, 6 packet
-abbrev pub number : Keyed → ℕ
-number (Flow key) = 0
-number Refused = 6
+abbrev pub number : Option Key → ℕ
+number (Some key) = 0
+number None = 6

@@ -5,6 +5,7 @@ use mathlib.Core.Logic.{inl, inr}
 use Prim.Native.Nat.{◌+◌, ◌*◌}
 use native.Mathlib.Omega.{arith}
 use lib.ListN.{length}
+use Rattle.std.specs.Prelude.{Err}
 use Rattle.laws.proofs.Bools.{split, refuted, and_l, and_r}
 use Rattle.layout.specs.declared.Sizes.{Sizes}
 use Rattle.layout.specs.Sizes.{Ranged, in_range, ipv4_layout, table_cells}
@@ -12,11 +13,10 @@ use Rattle.layout.proofs.Ranges.{ranged, lays-ipv4, table-low, table-high}
 use Rattle.list.specs.Records.{Records}
 use Rattle.room.specs.declared.Session.{Session}
 use Rattle.room.specs.Memory.{Memory}
-use Rattle.parts.specs.Areas.{place_after}
-use Rattle.exchange.specs.declared.Exchanged.{Exchanged}
-use Rattle.exchange.specs.declared.Exchanged.TheVariants as exchanged
+use Rattle.parts.specs.Places.{place_after}
+use Rattle.exchange.specs.declared.ExchangeError.TheVariants.{NotSession, BadRoom}
 use Rattle.rounds.specs.Joined.{room_end}
-use Rattle.exchange.specs.Exchange.{areas_fit, after_test, exchange_of}
+use Rattle.exchange.specs.Exchange.{Exchanged, areas_fit, after_test, exchange_of}
 use Rattle.exchange.proofs.Rooms.{areas-full}
 use Rattle.exchange.proofs.Tests.{tested-sizes, tested-room}
 use Rattle.calls.specs.Calls.{ran}
@@ -35,7 +35,7 @@ areas-misfit y z m r q h = sym (refuted (λ p. wrong-number m.list y z r q h ((a
 
 -- sizes of either first (8), then lengths (16)
 abbrev pub refusal : Session → Session → Exchanged
-refusal s t = cond (not (in_range s.sizes && in_range t.sizes)) exchanged.NotSession exchanged.BadRoom
+refusal s t = cond (not (in_range s.sizes && in_range t.sizes)) (Err NotSession) (Err BadRoom)
 
 pub exchange-misfit : (s t : Session) (m : Memory) → Misfit 6144 m.list → exchanging s t m ≡ ran (refusal s t) m
 unfolding exchange_of after_test

@@ -2,7 +2,7 @@
 use mathlib.Core.Path.{◌≡◌, refl, sym, ap, ◌∙◌}
 use Rattle.laws.proofs.Outcomes.{both}
 use Rattle.table.specs.Table.{tab}
-use Rattle.exchange.specs.declared.Exchanged.{Exchanged}
+use Rattle.exchange.specs.Exchange.{Exchanged}
 use Rattle.records.specs.Outcomes.{Determines}
 use Rattle.calls.specs.Calls.{lent, Called, called}
 use Rattle.calls.proofs.Outcomes.{written}

@@ -3,8 +3,7 @@
 use Rattle.layout.specs.Sizes.{ipv4_layout}
 use Rattle.room.specs.declared.Session.{Session}
 use Rattle.room.specs.Memory.{Memory}
-use Rattle.exchange.specs.declared.Exchanged.{Exchanged}
-use Rattle.exchange.specs.Exchange.{exchange_of}
+use Rattle.exchange.specs.Exchange.{Exchanged, exchange_of}
 use Rattle.calls.specs.Calls.{Lent, Ran, ran, Called, over_records}
 
 abbrev pub exchanging : Session → Session → Memory → Ran Exchanged

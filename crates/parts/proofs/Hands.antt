@@ -5,19 +5,19 @@ use Prim.Native.Nat.{ℕ, zero, suc, ◌+◌, ◌≤◌, ◌<◌}
 use native.Mathlib.Omega.{arith}
 use lib.ListN.{length}
 use Rattle.laws.specs.Upto.{each_upto}
-use Rattle.laws.proofs.Upto.{each_same}
 use Rattle.layout.specs.declared.Layout.{Layout}
 use Rattle.layout.specs.declared.Sizes.{Sizes}
 use Rattle.layout.specs.Sizes.{filter_bytes}
 use Rattle.list.specs.Records.{key_at, handed_in}
 use Rattle.peeling.specs.Peel.{Steady}
-use Rattle.handing.specs.declared.Handed.{Handed}
-use Rattle.handing.specs.declared.Handed.TheVariants.{Taken, NotInFilter, Listed, EmptyCell, TooMany}
+use Rattle.std.specs.Prelude.{Result, Ok, Err}
+use Rattle.handing.specs.declared.HandError.{HandError}
+use Rattle.handing.specs.declared.HandError.TheVariants.{NotInFilter, Listed, EmptyCell, TooMany}
 use Rattle.handing.specs.Hand.{Handing, handing, hand_of, taken_by, hand_number, Hands, twelve_by}
 use Rattle.handing.proofs.Laws.{hand-kept, hand-fits, hand-bounded, hand-handed}
 use Rattle.parts.specs.Sides.{Switch, switch, Given, after_hand, hand_at, hand_keys}
 
--- ---- one session, without the areas
+-- ---- one key
 module _ (l : Layout) (z : Sizes) (salt : ℕ) (filter : List ℕ) where
   -- a session that another key can be handed to
   abbrev pub Ready : Given → Type 0
@@ -32,11 +32,11 @@ module _ (l : Layout) (z : Sizes) (salt : ℕ) (filter : List ℕ) where
     o = hand_of l z salt g.listed key filter g.table g.list g.seen
 
     -- it is ready again, and the number handed over grows with the list
-    pub record Onward (a : Handed) (h : Handing) : Type 0 where
+    pub record Onward (a : Result Unit HandError) (h : Handing) : Type 0 where
       pub again : Ready (after_hand g h)
       pub handed : handed_in (after_hand g h).listed h.list ≡ handed_in g.listed g.list + taken_by a
 
-    kept : (a : Handed) → 0 < hand_number a → taken_by a ≡ 0 → o.answer ≡ a → Onward a o
+    kept : (a : Result Unit HandError) → 0 < hand_number a → taken_by a ≡ 0 → o.answer ≡ a → Onward a o
     kept a h none e =
         let same : o ≡ handing o.answer g.table g.list g.seen = hand-kept l z salt g.listed key filter g.table g.list g.seen refl
         (subst (λ b. 0 < hand_number b) (sym e) h) in
@@ -47,8 +47,8 @@ module _ (l : Layout) (z : Sizes) (salt : ℕ) (filter : List ℕ) where
           handed = ap (λ n. handed_in n g.list) (sym m) ∙ omega (arith, none);
         }
 
-    onward : (a : Handed) → o.answer ≡ a → Onward a o
-    onward Taken e =
+    onward : (a : Result Unit HandError) → o.answer ≡ a → Onward a o
+    onward (Ok done) e =
         let h = ready-hands f g r key k in
         let one : taken_by o.answer ≡ 1 = ap taken_by e in
         let steady : Steady l z salt (g.listed + 1) o.table o.list o.seen = record {
@@ -61,20 +61,20 @@ module _ (l : Layout) (z : Sizes) (salt : ℕ) (filter : List ℕ) where
           again = subst (λ n. Steady l z salt n o.table o.list o.seen) back steady;
           handed = ap (λ n. handed_in n o.list) (sym back) ∙ more;
         }
-    onward NotInFilter e = kept NotInFilter (omega arith) refl e
-    onward Listed e = kept Listed (omega arith) refl e
-    onward EmptyCell e = kept EmptyCell (omega arith) refl e
-    onward TooMany e = kept TooMany (omega arith) refl e
+    onward (Err NotInFilter) e = kept (Err NotInFilter) (omega arith) refl e
+    onward (Err Listed) e = kept (Err Listed) (omega arith) refl e
+    onward (Err EmptyCell) e = kept (Err EmptyCell) (omega arith) refl e
+    onward (Err TooMany) e = kept (Err TooMany) (omega arith) refl e
 
     pub hand-onward : Onward o.answer o
     hand-onward = onward o.answer refl
 
-pub twelve-few : (a : Handed) → twelve_by a ≤ 1
-twelve-few Taken = omega arith
-twelve-few NotInFilter = omega arith
-twelve-few Listed = omega arith
-twelve-few EmptyCell = omega arith
-twelve-few TooMany = omega arith
+pub twelve-few : (a : Result Unit HandError) → twelve_by a ≤ 1
+twelve-few (Ok done) = omega arith
+twelve-few (Err NotInFilter) = omega arith
+twelve-few (Err Listed) = omega arith
+twelve-few (Err EmptyCell) = omega arith
+twelve-few (Err TooMany) = omega arith
 
 -- ---- many keys, one after the other
 module _ (l : Layout) (z : Sizes) (salt : ℕ) (filter keys : List ℕ) (m : ℕ) where
@@ -103,16 +103,3 @@ module _ (l : Layout) (z : Sizes) (salt : ℕ) (filter keys : List ℕ) (m : ℕ
     pub keys-ready : Ready l z salt filter g → Ready l z salt filter (hand_keys l w filter keys m g)
     unfolding hand_keys
     keys-ready r = ready-upto r m (omega arith)
-
-alike_at : (l : Layout) (w : Switch) (filter ks ks' : List ℕ) (m : ℕ) → ((i : ℕ) → i < m → key_at l ks i ≡ key_at l ks' i)
-    → (i : ℕ) (g : Given) → i < m → hand_at l w filter ks i g ≡ hand_at l w filter ks' i g
-unfolding hand_at
-alike_at l w filter ks ks' m h i g q =
-    ap (λ key. after_hand g (hand_of l w.sizes w.salt g.listed key filter g.table g.list g.seen)) (h i q)
-
--- keys that agree are handed over alike
-pub keys-alike : (l : Layout) (w : Switch) (filter ks ks' : List ℕ) (m : ℕ) (g : Given) → ((i : ℕ) → i < m → key_at l ks i ≡ key_at l ks' i)
-    → hand_keys l w filter ks m g ≡ hand_keys l w filter ks' m g
-unfolding hand_keys
-keys-alike l w filter ks ks' m g h =
-    each_same m (hand_at l w filter ks) (hand_at l w filter ks') g (alike_at l w filter ks ks' m h)

@@ -1,6 +1,6 @@
--- Parts of areas, and the proofs of the functions on them.
-pub mod Areas
+-- Laws of the places, and of keys handed over one after the other.
 pub mod Near
 pub mod Hands
-pub mod Giving
+pub mod Taking
+pub mod Kept
 pub mod Outcomes

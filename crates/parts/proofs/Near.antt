@@ -8,7 +8,7 @@ use Rattle.layout.specs.declared.Sizes.{Sizes}
 use Rattle.layout.specs.Sizes.{Lays, Ranged, table_cells}
 use Rattle.layout.proofs.Ranges.{table-high, cell-high}
 use Rattle.parts.specs.declared.Place.{Place}
-use Rattle.parts.specs.Areas.{Near}
+use Rattle.parts.specs.Places.{Near}
 
 pub record Sums (l : Layout) (p : Place) (n : ℕ) : Type 0 where
   pub few : n ≤ 1536
@@ -20,19 +20,19 @@ pub record Sums (l : Layout) (p : Place) (n : ℕ) : Type 0 where
   pub more : 2 * n * l.key ≤ 1474560
   pub keys : p.keys + 2 * n * l.key ≤ 11796480
 
-pub sums : {l : Layout} {z : Sizes} {p : Place} {n : ℕ} → Lays l × Ranged z × Near p → n ≡ table_cells l z → Sums l p n
-sums {l = l} {z = z} {p = p} {n = n} r e =
-    let few : n ≤ 1536 = omega (arith, table-high l z r.0 r.1, e) in
-    let key : l.key ≤ 480 = omega (arith, cell-high l z r.0 r.1, r.0.key_fits) in
+pub sums : {l : Layout} {z : Sizes} {p : Place} {n : ℕ} → Lays l → Ranged z → Near p → n ≡ table_cells l z → Sums l p n
+sums {l = l} {z = z} {p = p} {n = n} lays ranged near e =
+    let few : n ≤ 1536 = omega (arith, table-high l z lays ranged, e) in
+    let key : l.key ≤ 480 = omega (arith, cell-high l z lays ranged, lays.key_fits) in
     let bytes : n * l.key ≤ 737280 = mul-le-mul {n₁ = n} {m₁ = l.key} {n₂ = 1536} {m₂ = 480} few key in
     let more : 2 * n * l.key ≤ 1474560 = mul-le-mul {n₁ = 2 * n} {m₁ = l.key} {n₂ = 3072} {m₂ = 480} (omega (arith, few)) key in
     record {
       few = few;
-      cells = omega (arith, few, r.2.cells-near);
+      cells = omega (arith, few, near.cells-near);
       bytes = bytes;
-      xors = omega (arith, bytes, r.2.xors-near);
-      words = omega (arith, few, r.2.words-near);
-      records = omega (arith, few, r.2.records-near);
+      xors = omega (arith, bytes, near.xors-near);
+      words = omega (arith, few, near.words-near);
+      records = omega (arith, few, near.records-near);
       more = more;
-      keys = omega (arith, more, r.2.keys-near);
+      keys = omega (arith, more, near.keys-near);
     }

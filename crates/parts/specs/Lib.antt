@@ -1,3 +1,4 @@
 -- What the crate's contracts cite.
 pub mod Sides
-pub mod Areas
+pub mod Places
+pub mod Parts

@@ -6,8 +6,7 @@ use Rattle.layout.specs.declared.Sizes.{Sizes}
 use Rattle.layout.specs.Sizes.{table_cells}
 use Rattle.list.specs.Records.{Records, key_at}
 use Rattle.table.specs.Table.{Tab}
-use Rattle.peeling.specs.Peel.{Steady, listed_at}
-use Rattle.peeling.specs.declared.Stop.{Stop}
+use Rattle.peeling.specs.Peel.{Steady, Stop, listed_at}
 use Rattle.settling.specs.Settle.{settle_of}
 use Rattle.handing.specs.Hand.{Handing, hand_of, taken_by, twelve_by}
 
@@ -40,6 +39,9 @@ pub record Stands (l : Layout) (w : Switch) (s : Side) : Type 0 where
 pub record Rested : Type 0 where
   pub stop : Stop
   pub left : Side
+
+abbrev pub rested : Stop → Side → Rested
+rested stop s = record { stop = stop; left = s }
 
 unfoldable pub settle_side : Layout → Switch → Side → Rested
 settle_side l w s =

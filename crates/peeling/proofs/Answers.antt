@@ -19,13 +19,14 @@ use Rattle.hash.specs.Places.{cell_of, Within}
 use Rattle.list.specs.Records.{Records, Room, key_at, is_listed, appended}
 use Rattle.list.proofs.Laws.{length-key, key-inside, key-appended, room-appended}
 use Rattle.index.specs.Index.{linked}
-use Rattle.marks.specs.Marks.{first_mark}
+use Rattle.marks.specs.Marks.{first_mark, first_found}
+use Rattle.marks.proofs.Laws.{found_some, found_none}
+use Rattle.table.proofs.Spots.{words-room}
+use Rattle.std.proofs.Common.{Some, None, Ok, Err}
 use Rattle.table.specs.Table.{Tab, Fit, InBytes, any_empty, has_empty, taken_out, Bounded}
 use Rattle.found.specs.Seen.{bucket, bucket_of, LeadsTo}
-use Rattle.peeling.specs.Peel.{Fits, PeelRoom, peeled, peel_damaged, peel_taken, peel_at, peel_of}
-use Rattle.peeling.specs.declared.Step.{Step}
-use Rattle.peeling.specs.declared.Step.TheVariants.{Quiet, Damaged, Next}
-use Rattle.table.proofs.Table.{empty-is, fit-out}
+use Rattle.peeling.specs.Peel.{Fits, PeelRoom, Step, peeled, peel_damaged, peel_taken, peel_at, peel_of}
+use Rattle.table.proofs.Parts.{empty-is, fit-out}
 use Rattle.table.proofs.Bounds.{peel-room, bounded-peeled}
 use Rattle.found.proofs.Seen.{leads, covers_more}
 use Rattle.laws.proofs.Rows.{row_within}
@@ -48,9 +49,9 @@ back_inside l {m} n key flag rs r h q = rw q (key-inside n (room-appended l m n 
 
 -- how many flows are listed after a step
 abbrev pub listed_after : ℕ → Step → ℕ
-listed_after n Next = n + 1
-listed_after n Quiet = n
-listed_after n (Damaged c) = n
+listed_after n (Ok true) = n + 1
+listed_after n (Ok false) = n
+listed_after n (Err c) = n
 
 module _ (l : Layout) (z : Sizes) (salt n : ℕ) (t : Tab) (rs : Records) (seen : List ℕ) (f : Fits l z salt n t rs seen) where
   -- what the test of damage asks of a key's places
@@ -71,16 +72,31 @@ module _ (l : Layout) (z : Sizes) (salt n : ℕ) (t : Tab) (rs : Records) (seen 
   pub leads-to : (key : List ℕ) {at : List ℕ} → at ≡ list_upto 4 (cell_of l z salt key) → LeadsTo l n rs.keys key (bucket at) seen
   leads-to key q = leads l z salt n rs.keys seen f.covers key q
 
-  module _ {cells c : ℕ} (s : cells ≡ table_cells l z) (d : c ≡ first_mark t.marks) where
-    pub peel-quiet : cells ≤ c → peeled Quiet t rs seen ≡ peel_of l z salt n t rs seen
-    unfolding peel_of
-    peel-quiet h = rw (le-ltb (first_mark t.marks) (table_cells l z) (omega arith))
+  no_mark : table_cells l z ≤ first_mark t.marks → peeled (Ok false) t rs seen ≡ peel_of l z salt n t rs seen
+  unfolding peel_of
+  no_mark h = rw (le-ltb (first_mark t.marks) (table_cells l z) h)
+
+  pub peel-none : None ≡ first_found t.marks → peeled (Ok false) t rs seen ≡ peel_of l z salt n t rs seen
+  peel-none e = no_mark (omega (arith, found_none t.marks e, words-room (table_cells l z) f.table.marks-fit))
+
+  module _ {cells c : ℕ} (s : cells ≡ table_cells l z) (found : Some c ≡ first_found t.marks) where
+    d : c ≡ first_mark t.marks
+    d = found_some t.marks found
+
+    pub peel-quiet : cells ≤ c → peeled (Ok false) t rs seen ≡ peel_of l z salt n t rs seen
+    peel-quiet h = no_mark (omega (arith, d))
 
     module _ (h : c < cells) where
-      -- a marked cell
+      -- a marked cell: its key has a key's length, and there is room for one record more
+      pub marked-length : {key : List ℕ} → key ≡ key_at l t.xors c → length key ≡ l.key
+      marked-length k = ap length k ∙ length-key l t.xors c (xor-inside c f.table (omega arith))
+
+      pub marked-room : PeelRoom l z n t → n < 2 * table_cells l z
+      marked-room room = room (omega (arith, d))
+
       from-mark : peel_at l z salt n t rs seen c ≡ peel_of l z salt n t rs seen
       unfolding peel_of
-      from-mark = rw (lt-ltb (first_mark t.marks) (table_cells l z) (omega arith), d)
+      from-mark = rw (lt-ltb (first_mark t.marks) (table_cells l z) (omega (arith, d)), d)
 
       module _ {key at : List ℕ} (k : key ≡ key_at l t.xors c) (a : at ≡ list_upto 4 (cell_of l z salt key)) {b : Bool}
           (p : b ≡ (is_listed l n rs.keys key || any_empty at z.k t.flows)) where
@@ -90,20 +106,20 @@ module _ (l : Layout) (z : Sizes) (salt n : ℕ) (t : Tab) (rs : Records) (seen 
             p ∙ ap (λ x. is_listed l n rs.keys key || x) (empty-is l z f.table.ranged salt key t.flows a)
             ∙ ap (λ x. is_listed l n rs.keys x || has_empty l z salt t.flows x) k
 
-        pub peel-damaged : b ≡ true → peeled (Damaged c) t rs seen ≡ peel_of l z salt n t rs seen
+        pub peel-damaged : b ≡ true → peeled (Err c) t rs seen ≡ peel_of l z salt n t rs seen
         unfolding peel_at
         peel-damaged q = (rw (← damage-is, q) at from-mark)
 
         pub peel-taken : {t' : Tab} {rs' : Records} {seen' key' : List ℕ} {own : ℕ} → b ≡ false → rs' ≡ appended l n key 0 rs
             → own ≡ bucket at → seen' ≡ linked seen own n → key' ≡ key → t' ≡ taken_out l z salt key' n t
-            → peeled Next t' rs' seen' ≡ peel_of l z salt n t rs seen
+            → peeled (Ok true) t' rs' seen' ≡ peel_of l z salt n t rs seen
         unfolding peel_at peel_taken
         peel-taken {t'} {rs'} {seen'} {key'} {own} q u v w x y =
             let t-is : t' ≡ taken_out l z salt (key_at l t.xors c) n t = y ∙ ap (λ m. taken_out l z salt m n t) (x ∙ k) in
             let rs-is : rs' ≡ appended l n (key_at l t.xors c) 0 rs = u ∙ ap (λ m. appended l n m 0 rs) k in
             let own_is : own ≡ bucket_of l z salt (key_at l t.xors c) = v ∙ ap bucket a ∙ ap (bucket_of l z salt) k in
             let seen-is : seen' ≡ linked seen (bucket_of l z salt (key_at l t.xors c)) n = w ∙ ap (λ m. linked seen m n) own_is in
-            ap (λ m. peeled Next m rs' seen') t-is ∙ ap₂ (λ m o. peeled Next (taken_out l z salt (key_at l t.xors c) n t) m o) rs-is seen-is
+            ap (λ m. peeled (Ok true) m rs' seen') t-is ∙ ap₂ (λ m o. peeled (Ok true) (taken_out l z salt (key_at l t.xors c) n t) m o) rs-is seen-is
             ∙ (rw (← damage-is, q) at from-mark)
 
   -- ---- what a peel keeps

@@ -1,5 +1,5 @@
 -- Peeling step after step, as the loop goes.
-use mathlib.Core.Path.{◌≡◌, refl, sym, ap, subst, ◌∙◌}
+use mathlib.Core.Path.{◌≡◌, sym, ap, subst, ◌∙◌}
 use mathlib.Core.List.{List}
 use Prim.Native.Nat.{ℕ, zero, suc, ◌+◌, ◌-◌, ◌*◌, ◌<◌}
 use native.Mathlib.Omega.{arith}
@@ -8,24 +8,15 @@ use Rattle.layout.specs.declared.Sizes.{Sizes}
 use Rattle.layout.specs.Sizes.{table_cells}
 use Rattle.list.specs.Records.{Records}
 use Rattle.table.specs.Table.{Tab, Bounded}
-use Rattle.peeling.specs.Peel.{Fits, Steady, Peeled, peeled, peel_of, Ended, ended, stop_at, after_peel, peels_upto, peels_of, listed_at}
-use Rattle.peeling.specs.declared.Step.{Step}
-use Rattle.peeling.specs.declared.Step.TheVariants.{Quiet, Damaged, Next}
-use Rattle.peeling.specs.declared.Stop.{Stop}
+use Rattle.peeling.specs.Peel.{Fits, Steady, Step, Stop, Peeled, peeled, peel_of, Ended, ended, damage, after_peel, peels_upto, peels_of, listed_at}
+use mathlib.Core.Bool.{true, false}
+use Rattle.std.proofs.Common.{Ok, Err}
 use Rattle.peeling.proofs.Answers.{listed_after, fits-step, has_room, bounded-step}
 
 -- m flows are listed, and peeling goes on from here as it does from the start
 pub record Going (l : Layout) (z : Sizes) (salt m : ℕ) (t : Tab) (rs : Records) (seen : List ℕ) (end : Ended) : Type 0 where
   pub steady : Steady l z salt m t rs seen
   pub goes : peels_of l z salt m t rs seen ≡ end
-
--- a step that is not a peel ends it
-stops : (more : Tab → Records → List ℕ → Ended) (m : ℕ) (s : Step) (t : Tab) (rs : Records) (seen : List ℕ) → (s ≡ Next → ⊥)
-    → ended (stop_at m s) t rs seen ≡ after_peel more m s t rs seen
-unfolding after_peel
-stops more m Quiet t rs seen h = refl
-stops more m (Damaged c) t rs seen h = refl
-stops more m Next t rs seen h = absurd (h refl)
 
 module _ {l : Layout} {z : Sizes} {salt m : ℕ} {t : Tab} {rs : Records} {seen : List ℕ} {end : Ended} (g : Going l z salt m t rs seen end)
     {s : Step} {t' : Tab} {rs' : Records} {seen' : List ℕ} (p : peeled s t' rs' seen' ≡ peel_of l z salt m t rs seen) where
@@ -45,22 +36,26 @@ module _ {l : Layout} {z : Sizes} {salt m : ℕ} {t : Tab} {rs : Records} {seen 
       subst (λ (x : Peeled). Bounded l z salt (listed_after m x.answer) x.table x.list) (sym p)
       (bounded-step l z salt m t rs seen g.steady.fits g.steady.bounded)
 
-  next_fits : s ≡ Next → Fits l z salt (m + 1) t' rs' seen'
+  next_fits : s ≡ Ok true → Fits l z salt (m + 1) t' rs' seen'
   next_fits e = (rw e at step_fits)
 
-  pub going-room : s ≡ Next → m < 2 * table_cells l z
+  pub going-room : s ≡ Ok true → m < 2 * table_cells l z
   going-room e = let f = next_fits e in omega (arith, f.listed)
 
-  pub going_on : s ≡ Next → Going l z salt (m + 1) t' rs' seen' end
+  pub going_on : s ≡ Ok true → Going l z salt (m + 1) t' rs' seen' end
   unfolding peels_of after_peel
   going_on e =
       let left : 2 * table_cells l z - m ≡ suc (2 * table_cells l z - (m + 1)) = (let h = going-room e in omega arith) in
       record { steady = record { fits = next_fits e; bounded = (rw e at step-bounded) }; goes = (rw (e, left) at follows) }
 
-  pub going-stop : {r : Stop} → (s ≡ Next → ⊥) → r ≡ stop_at m s → ended r t' rs' seen' ≡ end
-  going-stop h e =
-      ap (λ (x : Stop). ended x t' rs' seen') e
-      ∙ stops (peels_upto (2 * table_cells l z - m) l z salt (m + 1)) m s t' rs' seen' h ∙ follows
+  -- a step that is not a peel ends it
+  pub going-quiet : s ≡ Ok false → ended (Ok m) t' rs' seen' ≡ end
+  unfolding after_peel
+  going-quiet e = (rw e at follows)
+
+  pub going-damaged : {c : ℕ} → s ≡ Err c → ended (Err (damage m c)) t' rs' seen' ≡ end
+  unfolding after_peel
+  going-damaged e = (rw e at follows)
 
 -- ---- what fits, and is bounded, is so where peeling ended
 abbrev SteadyAt : Layout → Sizes → ℕ → Ended → Type 0
@@ -70,9 +65,9 @@ after-keeps : (l : Layout) (z : Sizes) (salt : ℕ) (more : Tab → Records → 
     → ((t : Tab) (rs : Records) (seen : List ℕ) → Steady l z salt (m + 1) t rs seen → SteadyAt l z salt (more t rs seen))
     → (s : Step) (t : Tab) (rs : Records) (seen : List ℕ) → Steady l z salt (listed_after m s) t rs seen → SteadyAt l z salt (after_peel more m s t rs seen)
 unfolding after_peel
-after-keeps l z salt more m h Next t rs seen f = h t rs seen f
-after-keeps l z salt more m h Quiet t rs seen f = f
-after-keeps l z salt more m h (Damaged c) t rs seen f = f
+after-keeps l z salt more m h (Ok true) t rs seen f = h t rs seen f
+after-keeps l z salt more m h (Ok false) t rs seen f = f
+after-keeps l z salt more m h (Err c) t rs seen f = f
 
 upto-keeps : (k : ℕ) (l : Layout) (z : Sizes) (salt m : ℕ) (t : Tab) (rs : Records) (seen : List ℕ) → Steady l z salt m t rs seen
     → SteadyAt l z salt (peels_upto k l z salt m t rs seen)

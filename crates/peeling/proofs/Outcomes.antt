@@ -6,10 +6,22 @@ use Rattle.peeling.proofs.peel.Kinds as peel-kinds
 use Rattle.peeling.proofs.peel.Reads as peel
 use Rattle.peeling.proofs.peels.Kinds as peels-kinds
 use Rattle.peeling.proofs.peels.Reads as peels
+use Rattle.list.proofs.Outcomes.{found-same}
+use Rattle.table.proofs.Outcomes.{table-same}
 use Rattle.peeling.specs.Peel.{Peeled, Ended}
 
 pub peel-determined : Determined _ peel-kinds.ps peel-kinds.r peel.Asked peel.Learnt
-peel-determined κs a p z z' ws ws' e e' = let f = e ∙ sym e' in (ap (λ (x : Peeled). x.answer) f, both refl (both refl (both refl (both refl (both refl (both (ap (λ (x : Peeled). x.table.xors) f) (both (ap (λ (x : Peeled). x.table.flows) f) (both (ap (λ (x : Peeled). x.table.unknowns) f) (both (ap (λ (x : Peeled). x.table.positions) f) (both (ap (λ (x : Peeled). x.table.marks) f) (both (ap (λ (x : Peeled). x.list.keys) f) (both (ap (λ (x : Peeled). x.list.counts) f) (both (ap (λ (x : Peeled). x.list.flags) f) (both (ap (λ (x : Peeled). x.seen) f) refl))))))))))))))
+peel-determined κs a p z z' ws ws' e e' =
+    let f = e.0 ∙ sym e'.0 in (
+      ap (λ (x : Peeled). x.answer) f,
+      both refl (both refl (both (table-same _ _ a.1.1.0.now (ap (λ (x : Peeled). x.table) f) e.1.0 e'.1.0)
+          (both (found-same _ _ a.1.1.1.0.now (ap (λ (x : Peeled). x.list) f) e.1.1 e'.1.1) (both (ap (λ (x : Peeled). x.seen) f) refl)))),
+    )
 
 pub peels-determined : Determined _ peels-kinds.ps peels-kinds.r peels.Asked peels.Learnt
-peels-determined κs a p z z' ws ws' e e' = let f = e ∙ sym e' in (ap (λ (x : Ended). x.answer) f, both refl (both refl (both refl (both refl (both refl (both (ap (λ (x : Ended). x.table.xors) f) (both (ap (λ (x : Ended). x.table.flows) f) (both (ap (λ (x : Ended). x.table.unknowns) f) (both (ap (λ (x : Ended). x.table.positions) f) (both (ap (λ (x : Ended). x.table.marks) f) (both (ap (λ (x : Ended). x.list.keys) f) (both (ap (λ (x : Ended). x.list.counts) f) (both (ap (λ (x : Ended). x.list.flags) f) (both (ap (λ (x : Ended). x.seen) f) refl))))))))))))))
+peels-determined κs a p z z' ws ws' e e' =
+    let f = e.0 ∙ sym e'.0 in (
+      ap (λ (x : Ended). x.answer) f,
+      both refl (both refl (both (table-same _ _ a.1.1.0.now (ap (λ (x : Ended). x.table) f) e.1.0 e'.1.0)
+          (both (found-same _ _ a.1.1.1.0.now (ap (λ (x : Ended). x.list) f) e.1.1 e'.1.1) (both (ap (λ (x : Ended). x.seen) f) refl)))),
+    )

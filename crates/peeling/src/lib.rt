@@ -4,154 +4,98 @@
 
 ghost use Rattle.std.specs.Prelude.{◌≡◌, ◌||◌, ◌*◌, ◌≤◌, length};
 ghost use Rattle.hash.specs.Places.{Within};
-ghost use Rattle.hash.specs.Salted.{after_salt};
-ghost use Rattle.list.specs.Records.{records, is_listed};
-ghost use Rattle.table.specs.Table.{tab, any_empty};
+ghost use Rattle.list.specs.Records.{is_listed};
+ghost use Rattle.list.specs.Found.{list_of, FoundKept};
+ghost use Rattle.table.specs.Table.{tab_of, TableKept, any_empty};
 ghost use Rattle.found.specs.Seen.{bucket, LeadsTo};
-ghost use Rattle.peeling.specs.Peel.{Fits, Steady, PeelRoom, peeled, peel_of, stop_at, ended, peels_of};
+ghost use Rattle.peeling.specs.Peel.{Fits, Steady, PeelRoom, peeled, peel_of, ended, peels_of};
 
-use hash::{Cells, Salted};
-use layout::{Layout, Sizes};
+use hash::{Cells, Placing};
+use list::Found;
+use table::Table;
 
-// Whether a key cannot be peeled: it is among the first n, or one of its first k places has FlowCount 0.
+// Table, list and index stay parameters, here, in handing and in settling: of `&mut` slices in a struct in a struct the check knows nothing afterwards.
+
+// Whether a key cannot be peeled: it is among the first n, or one of its places has FlowCount 0.
 fn is_damaged(
-    l: Layout,
+    p: Placing,
     n: usize,
     at: Cells,
-    k: usize,
     key: &[u8],
-    flows: &[u16],
-    keys: &[u8],
+    table: &Table,
+    found: &Found,
     seen: &[u16],
 ) -> bool
-    requires { Within at.at 2 1536 × (n ≤ 3072) × (n * l.key ≤ length keys.now) × (length key.now ≡ l.key)
-        × LeadsTo l n keys.now key.now (bucket at.at) seen.now × (k ≤ 4) × Within at.at k (length flows.now) }
-    ensures { result ≡ (is_listed l n keys.now key.now || any_empty at.at k flows.now) }
+    requires { Within at.at 2 1536 × (n ≤ 3072) × (n * p.shape.layout.key ≤ length found.now.keys.now) × (length key.now ≡ p.shape.layout.key)
+        × LeadsTo p.shape.layout n found.now.keys.now key.now (bucket at.at) seen.now × Within at.at p.shape.sizes.k (length table.now.flows.now) }
+    ensures { result ≡ (is_listed p.shape.layout n found.now.keys.now key.now || any_empty at.at p.shape.sizes.k table.now.flows.now) }
 {
-    if found::is_found(l, n, at, key, keys, seen) {
-        return true;
-    }
-    table::any_empty(at, k, flows)
+    found::is_found(p.shape.layout, n, at, key, found.keys, seen)
+        || table.any_empty(at, p.shape.sizes.k)
 }
 
-// What one step of peeling does: no cell is marked; 14 with the marked cell; a flow is taken out.
-#[derive(Clone, Copy)]
-pub enum Step {
-    Quiet,
-    Damaged(usize),
-    Next,
-}
-
-// One peel from the lowest mark, for any marks, where the list has room. n flows are listed.
+// One peel from the lowest mark, for any marks, where the list has room; n flows are listed. Whether a flow was taken out:
+// none is where no cell is marked. 14 with the marked cell.
 fn peel(
-    l: Layout,
-    z: Sizes,
-    salt: u32,
-    h: Salted,
+    p: Placing,
     n: usize,
-    xors: &mut [u8],
-    flows: &mut [u16],
-    unknowns: &mut [u16],
-    positions: &mut [u16],
-    marks: &mut [u64],
-    keys: &mut [u8],
-    counts: &mut [u32],
-    flags: &mut [u8],
+    table: &mut Table,
+    found: &mut Found,
     seen: &mut [u16],
-) -> Step
-    requires { Fits l z salt n (tab xors.old flows.old unknowns.old positions.old marks.old)
-        (records keys.old counts.old flags.old) seen.old
-        × PeelRoom l z n (tab xors.old flows.old unknowns.old positions.old marks.old) × (h ≡ after_salt salt) }
-    ensures { peeled result (tab xors.new flows.new unknowns.new positions.new marks.new)
-        (records keys.new counts.new flags.new) seen.new
-        ≡ peel_of l z salt n
-        (tab xors.old flows.old unknowns.old positions.old marks.old)
-        (records keys.old counts.old flags.old) seen.old }
+) -> Result<bool, usize>
+    requires { Fits p.shape.layout p.shape.sizes p.salt n (tab_of table.old) (list_of found.old) seen.old
+        × PeelRoom p.shape.layout p.shape.sizes n (tab_of table.old) }
+    ensures value { peeled result (tab_of table.new) (list_of found.new) seen.new
+        ≡ peel_of p.shape.layout p.shape.sizes p.salt n (tab_of table.old) (list_of found.old) seen.old }
+    ensures table_kept { TableKept table.new table.old }
+    ensures found_kept { FoundKept found.new found.old }
 {
-    let cells = layout::table_cells(l, z);
-    let c = marks::first_mark(marks);
-    if c >= cells {
-        return Step::Quiet;
+    let l = p.shape.layout;
+    let Some(c) = table.first_mark() else {
+        return Ok(false);
+    };
+    if c >= p.shape.table_cells() {
+        return Ok(false);
     }
-    let a = c * l.key;
-    let e = a + l.key;
-    let b = n * l.key;
-    let d = b + l.key;
-    let at = hash::cells_of(l, z, salt, h, &xors[a..e]);
-    if is_damaged(l, n, at, z.k, &xors[a..e], flows, keys, seen) {
-        return Step::Damaged(c);
+    let key = table.key(l, c);
+    let at = p.cells_of(key);
+    if is_damaged(p, n, at, key, table, found, seen) {
+        return Err(c);
     }
-    list::append(l, n, &xors[a..e], 0, keys, counts, flags);
+    found.append(l, n, key, 0);
     index::link(seen, found::bucket(at), n);
-    table::take_out(
-        l,
-        z,
-        salt,
-        h,
-        at,
-        &keys[b..d],
-        n as u16,
-        xors,
-        flows,
-        unknowns,
-        positions,
-        marks,
-    );
-    Step::Next
+    table.take_out(p, at, found.key(l, n), n as u16);
+    Ok(true)
 }
 
-// How peeling ended: the flows that are then listed, and for 14 the marked cell.
+// A damaged flowset, 14: the flows listed until then, and the marked cell.
 #[derive(Clone, Copy)]
-pub enum Stop {
-    Done { listed: usize },
-    Damaged { listed: usize, cell: usize },
+pub struct Damage {
+    pub listed: usize,
+    pub cell: usize,
 }
 
-// The end that a step makes, with n flows listed.
-fn stop_at(n: usize, s: Step) -> Stop
-    ensures { result ≡ stop_at n s }
-{
-    match s {
-        Step::Quiet => Stop::Done { listed: n },
-        Step::Damaged(c) => Stop::Damaged { listed: n, cell: c },
-        Step::Next => Stop::Done { listed: n },
-    }
-}
-
-// Peels while a cell is marked. n flows are listed at first; marks and numbers are as the test of 8 has them, so that no peel finds the list full.
+// Peels while a cell is marked; the flows that are then listed. n flows are listed at first; marks and numbers are as the test of 8 has them,
+// so that no peel finds the list full.
 pub fn peels(
-    l: Layout,
-    z: Sizes,
-    salt: u32,
-    h: Salted,
+    p: Placing,
     n: usize,
-    xors: &mut [u8],
-    flows: &mut [u16],
-    unknowns: &mut [u16],
-    positions: &mut [u16],
-    marks: &mut [u64],
-    keys: &mut [u8],
-    counts: &mut [u32],
-    flags: &mut [u8],
+    table: &mut Table,
+    found: &mut Found,
     seen: &mut [u16],
-) -> Stop
-    requires { Steady l z salt n (tab xors.old flows.old unknowns.old positions.old marks.old)
-        (records keys.old counts.old flags.old) seen.old × (h ≡ after_salt salt) }
-    ensures { ended result (tab xors.new flows.new unknowns.new positions.new marks.new)
-        (records keys.new counts.new flags.new) seen.new
-        ≡ peels_of l z salt n
-        (tab xors.old flows.old unknowns.old positions.old marks.old)
-        (records keys.old counts.old flags.old) seen.old }
+) -> Result<usize, Damage>
+    requires { Steady p.shape.layout p.shape.sizes p.salt n (tab_of table.old) (list_of found.old) seen.old }
+    ensures value { ended result (tab_of table.new) (list_of found.new) seen.new
+        ≡ peels_of p.shape.layout p.shape.sizes p.salt n (tab_of table.old) (list_of found.old) seen.old }
+    ensures table_kept { TableKept table.new table.old }
+    ensures found_kept { FoundKept found.new found.old }
 {
-    let mut m = n;
+    let mut listed = n;
     loop {
-        let s = peel(
-            l, z, salt, h, m, xors, flows, unknowns, positions, marks, keys, counts, flags, seen,
-        );
-        if let Step::Next = s {
-            m += 1;
-        } else {
-            return stop_at(m, s);
+        match peel(p, listed, table, found, seen) {
+            Ok(true) => listed += 1,
+            Ok(false) => return Ok(listed),
+            Err(cell) => return Err(Damage { listed, cell }),
         }
     }
 }

@@ -5,6 +5,7 @@ use mathlib.Core.List.{List, [], ◌∷◌, ◌++◌, append-nil}
 use Prim.Native.Nat.{ℕ, zero, suc, ◌+◌, ◌-◌, ◌*◌, ◌/◌, ◌%◌, ◌^◌, ◌<◌}
 use native.Mathlib.Omega.{arith}
 use borrow.Author.Tests.{eq-eqb, le-ltb}
+use Rattle.std.specs.Prelude.{Ok}
 use lib.Bits.{bit_and}
 use lib.Dec.{ltb}
 use lib.ListN.{length, get_or, set, replicate, length-replicate}
@@ -26,17 +27,14 @@ use Rattle.fields.specs.Field.{field}
 use Rattle.cell.specs.Cell.{flow_xor_at, flow_count_at, packet_count_at}
 use Rattle.block.specs.Block.{image_of, zero_bytes}
 use Rattle.sealing.specs.Seal.{Sealable}
-use Rattle.reading.specs.declared.Reading.TheVariants.{Image}
-use Rattle.reading.specs.Read.{read_of, filter_in, cells_in}
+use Rattle.reading.specs.Read.{image_with, read_of, filter_in, cells_in}
 use Rattle.reading.proofs.Accepts.{accepted}
 use Rattle.image.proofs.Back.{read_back}
 use Rattle.list.specs.Records.{Records}
 use Rattle.marks.specs.Marks.{words_for, put_mark, first_mark}
 use Rattle.table.specs.Table.{Tab, open_in}
 use Rattle.peeling.specs.Peel.{peeled, peel_of, ended, after_peel, peels_upto, peels_of}
-use Rattle.peeling.specs.declared.Step.TheVariants as step
-use Rattle.peeling.specs.declared.Stop.TheVariants as stop
-use Rattle.table.proofs.Table.{pure-no}
+use Rattle.table.proofs.Parts.{pure-no}
 use Rattle.counting.specs.Count.{counts_upto, counts_of}
 use Rattle.settling.specs.Settle as settling
 use Rattle.settling.specs.Settle.{after_counts, then_counts}
@@ -48,7 +46,6 @@ use Rattle.opening.proofs.Answers.{opened-rooms, opened-session}
 use Rattle.summary.specs.declared.Report.{Report}
 use Rattle.summary.specs.declared.State.TheVariants.{Whole}
 use Rattle.summary.specs.Report.{counted_in, nothing_left, report_of}
-use Rattle.session.specs.declared.Settled.TheVariants as settled
 use Rattle.session.specs.Calls.{Settling, settling_to, settle_leaves, settle_of, report_in, index_of}
 use Rattle.session.proofs.Answers.{Passes}
 use Rattle.session.proofs.Laws.{settle-passes}
@@ -85,17 +82,17 @@ first-zeros (suc k) = rw (first-zeros k) (omega arith)
 -- ---- settling finds nothing to do
 module _ (l : Layout) (z : Sizes) (salt : ℕ) (t : Tab) (packets : List ℕ) (rs : Records) (seen : List ℕ)
     (quiet : t.marks ≡ zeros (words_for (table_cells l z))) where
-  peel-none : peel_of l z salt 0 t rs seen ≡ peeled step.Quiet t rs seen
+  peel-none : peel_of l z salt 0 t rs seen ≡ peeled (Ok false) t rs seen
   unfolding peel_of
   peel-none =
       let e = ap first_mark quiet ∙ first-zeros (words_for (table_cells l z)) in
       rw (le-ltb (first_mark t.marks) (table_cells l z) (omega arith))
 
-  peels-none : peels_of l z salt 0 t rs seen ≡ ended (stop.Done 0) t rs seen
+  peels-none : peels_of l z salt 0 t rs seen ≡ ended (Ok 0) t rs seen
   unfolding peels_of peels_upto after_peel
   peels-none = rw peel-none
 
-  settle-none : settling.settle_of l z salt 0 t packets rs seen ≡ settling.settled (stop.Done 0) t packets rs seen
+  settle-none : settling.settle_of l z salt 0 t packets rs seen ≡ settling.settled (Ok 0) t packets rs seen
   unfolding settling.settle_of then_counts after_counts counts_of counts_upto
   settle-none = rw peels-none
 
@@ -151,7 +148,7 @@ module _ (z : Sizes) (r : Ranged z) where
     abbrev start : Session
     start = record { sizes = z; salt = salt; slot = slot; listed = 0 }
 
-    back : (read_of ipv4_layout image slot ≡ Image z salt) × (filter_in z image ≡ zeros (filter_bytes z)) × (cells_in ipv4_layout z image ≡ cells)
+    back : (read_of ipv4_layout image slot ≡ image_with z salt) × (filter_in z image ≡ zeros (filter_bytes z)) × (cells_in ipv4_layout z image ≡ cells)
     back = read_back ipv4_layout lays-ipv4 z (zeros (filter_bytes z)) cells sealable salt slot p q
 
     flows-zero : (c : ℕ) → c < table_cells ipv4_layout z → get_or (flows_in ipv4_layout z image) c 0 ≡ 0
@@ -192,7 +189,7 @@ module _ (z : Sizes) (r : Ranged z) where
         }
 
     -- settling changes nothing
-    still : settle_of ipv4_layout start opened ≡ settling_to (settled.Done 0) opened
+    still : settle_of ipv4_layout start opened ≡ settling_to (Ok 0) opened
     unfolding opened_memory
     still =
         settle-passes ipv4_layout start opened passes

@@ -1,19 +1,19 @@
 -- The printing program's output as a function of its standard input: 01 'Printing program'.
-use Rattle.std.specs.Prelude.{◌≡◌, cond, List, ◌++◌, ℕ, ◌+◌, ◌*◌, ltb, length, get_or, drop}
+use Rattle.std.specs.Prelude.{◌≡◌, cond, List, ◌++◌, ℕ, ◌+◌, ◌*◌, ltb, length, get_or, drop, Result, Ok, Err}
+use Rattle.std.specs.Bool.{then_some}
 use Rattle.laws.specs.Upto.{join_upto}
 use Rattle.layout.specs.declared.Sizes.{Sizes}
 use Rattle.layout.specs.Sizes.{ipv4_layout}
 use Rattle.fields.specs.Field.{field}
 use Rattle.packet.specs.Key.{key_from}
 use Rattle.list.specs.Records.{Records, key_at, is_known}
-use Rattle.reading.specs.declared.Reading.{Reading}
-use Rattle.reading.specs.declared.Reading.TheVariants as read
+use Rattle.reading.specs.declared.ReadError.{ReadError}
+use Rattle.reading.specs.declared.Image.{Image}
 use Rattle.reading.specs.Read.{read_of, read_number}
 use Rattle.room.specs.declared.Session.{Session}
 use Rattle.room.specs.Memory.{Memory}
 use Rattle.opening.specs.Open.{opened_memory}
-use Rattle.session.specs.declared.Settled.{Settled}
-use Rattle.session.specs.declared.Settled.TheVariants as settled
+use Rattle.session.specs.declared.SettleError.{SettleError}
 use Rattle.session.specs.Calls.{settle_of, settle_number}
 use Rattle.summary.specs.Report.{report_of}
 use Rattle.lines.specs.Text.{flow_line, head_line, refused_line}
@@ -24,7 +24,7 @@ most_written = 61 + 3072 * 59
 
 -- the line of record i
 unfoldable pub record_line : Records → ℕ → List ℕ
-record_line rs i = flow_line (key_from (key_at ipv4_layout rs.keys i)) (is_known rs i) (get_or rs.counts i 0)
+record_line rs i = flow_line (key_from (key_at ipv4_layout rs.keys i)) (then_some (is_known rs i) (get_or rs.counts i 0))
 
 -- 01 'Printing program': "a line of slot, salt, listed, counted, open and state; then per listed flow, in list order: .."; n flows are listed
 unfoldable pub listed_lines : ℕ → ℕ → ℕ → List ℕ → List ℕ → List ℕ → Records → List ℕ
@@ -36,25 +36,19 @@ abbrev pub room_lines : ℕ → ℕ → ℕ → Memory → List ℕ
 room_lines slot salt n m = listed_lines slot salt n m.table.xors m.table.flows m.packets m.list
 
 -- 01 'Printing program': "A refusal, 14 too, prints only `refused` and the number"; by what settling answers and leaves
-unfoldable pub settled_lines : ℕ → ℕ → Memory → Settled → List ℕ
-settled_lines slot salt m (settled.Done n) = room_lines slot salt n m
-settled_lines slot salt m (settled.Damaged n c) = refused_line (settle_number (settled.Damaged n c))
-settled_lines slot salt m settled.NotSession = refused_line (settle_number settled.NotSession)
-settled_lines slot salt m settled.BadRoom = refused_line (settle_number settled.BadRoom)
+unfoldable pub settled_lines : ℕ → ℕ → Memory → Result ℕ SettleError → List ℕ
+settled_lines slot salt m (Ok n) = room_lines slot salt n m
+settled_lines slot salt m (Err e) = refused_line (settle_number (Err e))
 
 -- 01 'Printing program': "settles, and prints"
 unfoldable pub session_lines : Session → Memory → List ℕ
 session_lines s m = let e = settle_of ipv4_layout s m in settled_lines s.slot s.salt e.room e.answer
 
 -- 01 'Printing program': "It opens"; by what reading answers
-unfoldable pub read_lines : ℕ → List ℕ → Reading → List ℕ
-read_lines slot image (read.Image z salt) =
-    session_lines (record { sizes = z; salt = salt; slot = slot; listed = 0 }) (opened_memory ipv4_layout z salt image)
-read_lines slot image read.Length = refused_line (read_number read.Length)
-read_lines slot image (read.Check n) = refused_line (read_number (read.Check n))
-read_lines slot image (read.Form n) = refused_line (read_number (read.Form n))
-read_lines slot image (read.Mixed n) = refused_line (read_number (read.Mixed n))
-read_lines slot image read.Stale = refused_line (read_number read.Stale)
+unfoldable pub read_lines : ℕ → List ℕ → Result Image ReadError → List ℕ
+read_lines slot image (Ok i) =
+    session_lines (record { sizes = i.sizes; salt = i.salt; slot = slot; listed = 0 }) (opened_memory ipv4_layout i.sizes i.salt image)
+read_lines slot image (Err e) = refused_line (read_number (Err e))
 
 -- the lines of an image that is wanted of a slot
 unfoldable pub image_lines : ℕ → List ℕ → List ℕ
@@ -68,13 +62,9 @@ printed input = cond (ltb (length input) 4) (refused_line 1) (image_lines (field
 abbrev pub least_sizes : Sizes
 least_sizes = record { kf = 1; f = 1; k = 2; q = 1 }
 
-abbrev pub sizes_read : Reading → Sizes
-sizes_read (read.Image z salt) = z
-sizes_read read.Length = least_sizes
-sizes_read (read.Check n) = least_sizes
-sizes_read (read.Form n) = least_sizes
-sizes_read (read.Mixed n) = least_sizes
-sizes_read read.Stale = least_sizes
+abbrev pub sizes_read : Result Image ReadError → Sizes
+sizes_read (Ok i) = i.sizes
+sizes_read (Err e) = least_sizes
 
 -- room for an image of any sizes: 01 'Keys and hashing', "F from 1 to 16 filter blocks", "at most 1,536" cells; 'A session', 2 N records
 pub record Largest (m : Memory) : Type 0 where

@@ -5,21 +5,21 @@
 ghost use Rattle.std.specs.Prelude.{◌≡◌, ◌+◌, ◌*◌, ◌≤◌, ◌<◌, length};
 ghost use Rattle.std.proofs.lemmas.List.Edits.{sets};
 ghost use Rattle.laws.specs.Upto.{join_upto};
-ghost use Rattle.layout.specs.Sizes.{ipv4_layout};
+ghost use Rattle.layout.specs.Sizes.{ipv4_layout, filter_bytes, table_cells};
 ghost use Rattle.reading.specs.Read.{read_of};
-ghost use Rattle.opening.specs.Open.{open_number};
 ghost use Rattle.list.specs.Records.{records};
+ghost use Rattle.list.specs.Seen.{list_seen};
 ghost use Rattle.table.specs.Table.{tab};
 ghost use Rattle.room.specs.Memory.{memory, Rooms};
-ghost use Rattle.session.specs.Calls.{settle_number};
-ghost use Rattle.lines.specs.Text.{Put};
+ghost use Rattle.lines.specs.Text.{Put, refused_line};
+ghost use Rattle.lines.specs.Page.{Holds, Adds};
 ghost use Rattle.printing.specs.Print.{most_written, record_line, listed_lines, session_lines, image_lines, printed, sizes_read, Largest};
 
-use layout::Sizes;
-use opening::Opened;
-use reading::Reading;
+use layout::{Shape, Sizes};
+use lines::Page;
+use list::FoundRef;
+use reading::{Image, ReadError};
 use room::Session;
-use session::Settled;
 
 // The most bytes that are written: a first line of at most 61, and at most 3,072 lines of at most 59.
 pub const MOST: usize = 181309;
@@ -27,43 +27,24 @@ pub const MOST: usize = 181309;
 // ---- listed flows
 
 // Writes the line of record i.
-fn put_record(
-    out: &mut [u8],
-    at: usize,
-    i: usize,
-    keys: &[u8],
-    counts: &[u32],
-    flags: &[u8],
-) -> usize
-    requires { (at + 59 ≤ length out.old) × (i * 13 + 13 ≤ length keys.now) × (i < length counts.now) × (i < length flags.now) }
-    ensures { Put out.old out.new at result
-        (record_line (records keys.now counts.now flags.now) i) × (result ≤ at + 59) }
+fn put_record(page: &mut Page<'_>, i: usize, found: FoundRef<'_>)
+    requires { Holds page.old (record_line (list_seen found) i)
+        × (i * 13 + 13 ≤ length found.keys.now) × (i < length found.counts.now) × (i < length found.flags.now) }
+    ensures { Adds page.old page.new (record_line (list_seen found.entry) i) }
 {
-    let key = records::key_at(i, keys);
-    let known = flags[i] % 2 == 1;
-    lines::put_flow(out, at, key, known, counts[i])
+    let count = (found.flags[i] % 2 == 1).then_some(found.counts[i]);
+    page.flow(records::key_at(i, found.keys), count);
 }
 
 // Writes the lines of the first n records.
-fn put_records(
-    out: &mut [u8],
-    at: usize,
-    n: usize,
-    keys: &[u8],
-    counts: &[u32],
-    flags: &[u8],
-) -> usize
-    requires { (at + n * 59 ≤ length out.old) × (n * 13 ≤ length keys.now) × (n ≤ length counts.now) × (n ≤ length flags.now) }
-    ensures { Put out.old out.new at result
-        (join_upto n (record_line (records keys.now counts.now flags.now))) }
+fn put_records(page: &mut Page<'_>, n: usize, found: FoundRef<'_>)
+    requires { Holds page.old (join_upto n (record_line (list_seen found)))
+        × (n * 13 ≤ length found.keys.now) × (n ≤ length found.counts.now) × (n ≤ length found.flags.now) }
+    ensures { Adds page.old page.new (join_upto n (record_line (list_seen found.entry))) }
 {
-    let mut to = at;
-    let mut i = 0;
-    while i < n {
-        to = put_record(out, to, i, keys, counts, flags);
-        i += 1;
+    for i in 0..n {
+        put_record(page, i, found);
     }
-    to
 }
 
 // Writes all lines where n flows are listed.
@@ -86,40 +67,33 @@ pub fn put_listed(
         (records keys.now counts.now flags.now)) }
 {
     let report = summary::report_of(n, xors, flows, packets, flags);
-    let to = lines::put_head(out, 0, slot, salt, report);
-    put_records(out, to, n, keys, counts, flags)
+    let mut page = Page::new(out);
+    page.head(slot, salt, report);
+    put_records(
+        &mut page,
+        n,
+        FoundRef {
+            keys,
+            counts,
+            flags,
+        },
+    );
+    page.written()
 }
 
-// ---- numbers of refusals
+// ---- refusals
 
-// The number of what opening answers.
-fn open_number(o: Opened) -> u8
-    ensures { result ≡ open_number o }
+// Writes the line of a refusal alone.
+fn refuse(out: &mut [u8], number: u32) -> usize
+    requires { most_written ≤ length out.old }
+    ensures { Put out.old out.new 0 result (refused_line number) }
 {
-    match o {
-        Opened::Open(_) => 0,
-        Opened::Length => 1,
-        Opened::Check(_) => 2,
-        Opened::Form(_) => 3,
-        Opened::Mixed(_) => 4,
-        Opened::Stale => 5,
-        Opened::BadRoom => 16,
-    }
+    let mut page = Page::new(out);
+    page.refused(number);
+    page.written()
 }
 
-// The number of what settling answers.
-fn settle_number(e: Settled) -> u8
-    ensures { result ≡ settle_number e }
-{
-    match e {
-        Settled::Done { listed: _ } => 0,
-        Settled::Damaged { listed: _, cell: _ } => 14,
-        Settled::NotSession => 8,
-        Settled::BadRoom => 16,
-    }
-}
-
-// ---- a session, an image
+// ---- a session, an image: the slices go on one by one, as `session::settle` and `session::open` take them, and `elderflute_lines` lends them to `put_listed`
 
 // Settles a session and writes its lines.
 fn print_session(
@@ -141,15 +115,14 @@ fn print_session(
         (tab xors.old flows.old unknowns.old positions.old marks.old)
         packets.old (records keys.old counts.old flags.old))) }
 {
-    let e = session::settle(
+    match session::settle(
         s, filter, xors, flows, packets, unknowns, positions, marks, keys, counts, flags,
-    );
-    let Settled::Done { listed } = e else {
-        return lines::put_refused(out, 0, settle_number(e));
-    };
-    put_listed(
-        out, s.slot, s.salt, listed, xors, flows, packets, keys, counts, flags,
-    )
+    ) {
+        Ok(listed) => put_listed(
+            out, s.slot, s.salt, listed, xors, flows, packets, keys, counts, flags,
+        ),
+        Err(e) => refuse(out, e.number()),
+    }
 }
 
 // Opens an image in room of its size, settles it and writes its lines.
@@ -172,20 +145,34 @@ fn print_in(
         (tab xors.old flows.old unknowns.old positions.old marks.old) packets.old (records keys.old counts.old flags.old)) }
     ensures { Put out.old out.new 0 result (image_lines slot image.now) }
 {
-    let o = session::open(
+    match session::open(
         image, slot, filter, xors, flows, packets, unknowns, positions, marks, keys, counts, flags,
-    );
-    let Opened::Open(s) = o else {
-        return lines::put_refused(out, 0, open_number(o));
-    };
-    print_session(
-        s, filter, xors, flows, packets, unknowns, positions, marks, keys, counts, flags, out,
-    )
+    ) {
+        Ok(s) => print_session(
+            s, filter, xors, flows, packets, unknowns, positions, marks, keys, counts, flags, out,
+        ),
+        Err(e) => refuse(out, e.number()),
+    }
 }
 
-// Lends as much of the largest room as an image of sizes z asks for.
+// The bytes of a filter: at most those of 16 blocks.
+fn filter_room(shape: Shape) -> usize
+    ensures { (result ≡ filter_bytes shape.sizes) × (result ≤ 7680) }
+{
+    shape.filter_bytes()
+}
+
+// The cells of a table of IPv4 keys: at most 1,536.
+fn cell_room(shape: Shape) -> usize
+    requires { shape.layout ≡ ipv4_layout }
+    ensures { (result ≡ table_cells ipv4_layout shape.sizes) × (result ≤ 1536) }
+{
+    shape.table_cells()
+}
+
+// Lends as much of the largest room as an image of this shape asks for.
 fn print_parts(
-    z: Sizes,
+    shape: Shape,
     image: &[u8],
     slot: u32,
     filter: &mut [u8],
@@ -200,12 +187,12 @@ fn print_parts(
     flags: &mut [u8],
     out: &mut [u8],
 ) -> usize
-    requires { (most_written ≤ length out.old) × (z ≡ sizes_read (read_of ipv4_layout image.now slot)) × Largest (memory filter.old
+    requires { (most_written ≤ length out.old) × (shape.layout ≡ ipv4_layout) × (shape.sizes ≡ sizes_read (read_of ipv4_layout image.now slot)) × Largest (memory filter.old
         (tab xors.old flows.old unknowns.old positions.old marks.old) packets.old (records keys.old counts.old flags.old)) }
     ensures { Put out.old out.new 0 result (image_lines slot image.now) }
 {
-    let bytes = layout::filter_bytes(z);
-    let cells = layout::table_cells(layout::ipv4(), z);
+    let bytes = filter_room(shape);
+    let cells = cell_room(shape);
     let width = cells * 13;
     let words = (cells + 63) / 64;
     let most = 2 * cells;
@@ -228,18 +215,18 @@ fn print_parts(
 }
 
 // The sizes by which room is made for what was read.
-fn sizes_read(r: Reading) -> Sizes
-    ensures { result ≡ sizes_read r }
+fn sizes_read(read: Result<Image, ReadError>) -> Sizes
+    ensures { result ≡ sizes_read read }
 {
-    let Reading::Image(z, _) = r else {
-        return Sizes {
+    match read {
+        Ok(image) => image.sizes,
+        Err(_) => Sizes {
             kf: 1,
             f: 1,
             k: 2,
             q: 1,
-        };
-    };
-    z
+        },
+    }
 }
 
 // Writes the lines of an image that is wanted of a slot.
@@ -247,7 +234,10 @@ fn print_image(image: &[u8], slot: u32, out: &mut [u8]) -> usize
     requires { most_written ≤ length out.old }
     ensures { Put out.old out.new 0 result (image_lines slot image.now) }
 {
-    let z = sizes_read(reading::read(image, slot));
+    let shape = Shape {
+        layout: layout::ipv4(),
+        sizes: sizes_read(reading::read(image, slot)),
+    };
     let mut filter = [0u8; 7680];
     let mut xors = [0u8; 19968];
     let mut flows = [0u16; 1536];
@@ -259,7 +249,7 @@ fn print_image(image: &[u8], slot: u32, out: &mut [u8]) -> usize
     let mut counts = [0u32; 3072];
     let mut flags = [0u8; 3072];
     print_parts(
-        z,
+        shape,
         image,
         slot,
         &mut filter,
@@ -283,7 +273,7 @@ pub fn print(input: &[u8], out: &mut [u8]) -> usize
         × (out.new ≡ sets out.old 0 (printed input.now)) × (result ≤ length out.old) }
 {
     if input.len() < 4 {
-        return lines::put_refused(out, 0, 1);
+        return refuse(out, 1);
     }
     print_image(&input[4..], fields::long_at(input, 0), out)
 }

@@ -13,11 +13,13 @@ use Rattle.layout.specs.declared.Sizes.{Sizes}
 use Rattle.layout.specs.Sizes.{Ranged, in_range, blocks}
 use Rattle.layout.proofs.Ranges.{ranged, range-test, blocks-high}
 use Rattle.fields.specs.Field.{field}
-use Rattle.reading.specs.declared.Reading.{Reading}
-use Rattle.reading.specs.declared.Reading.TheVariants.{Image, Length, Check, Form, Mixed, Stale}
+use Rattle.std.proofs.Common.{Result, Err}
+use Rattle.reading.specs.declared.Image.{Image}
+use Rattle.reading.specs.declared.ReadError.{ReadError}
+use Rattle.reading.specs.declared.ReadError.TheVariants.{Length, Check, Form, Mixed, Stale}
 use Rattle.block.specs.Block.{block_at}
 use Rattle.form.specs.Form.{sizes_in, formed}
-use Rattle.reading.specs.Read.{bad_length, checks, read_later, read_of, read_number}
+use Rattle.reading.specs.Read.{bad_length, checks, image_with, read_later, read_of}
 use Rattle.form.proofs.Form.{form-facts}
 use Rattle.reading.proofs.Returns.{read-on}
 
@@ -34,28 +36,34 @@ pub record Accepted (l : Layout) (z : Sizes) (salt slot : ℕ) (image : List ℕ
   pub each : (n : ℕ) → n < blocks z → Passes l z salt slot n (block_at image n)
 
 -- a refusal is no image
-passed : (t : Bool) (bad good : Reading) {z : Sizes} {salt : ℕ} → 0 < read_number bad → cond t bad good ≡ Image z salt
-    → (t ≡ false) × (good ≡ Image z salt)
-passed true bad good h e = absurd (omega (arith, ap read_number e))
-passed false bad good h e = (refl, e)
+passed : (t : Bool) (bad : ReadError) (good : Result Image ReadError) {z : Sizes} {salt : ℕ} → cond t (Err bad) good ≡ image_with z salt
+    → (t ≡ false) × (good ≡ image_with z salt)
+passed true bad good e = cc
+passed false bad good e = (refl, e)
+
+-- one answer has one pair of sizes and salt
+same_image : {z y : Sizes} {salt s : ℕ} → image_with z salt ≡ image_with y s → (z ≡ y) × (salt ≡ s)
+same_image {z} {y} {salt} {s} e =
+    let q : ◌≡◌ {A = Image} (record { sizes = z; salt = salt }) (record { sizes = y; salt = s }) = cc in
+    (ap (λ (i : Image). i.sizes) q, ap (λ (i : Image). i.salt) q)
 
 module _ (l : Layout) (z : Sizes) (salt slot : ℕ) (image : List ℕ) where
-  later-yes : (m n : ℕ) → ((i : ℕ) → n ≤ i → i < n + m → Passes l z salt slot i (block_at image i)) → read_later l z salt slot image n m ≡ Image z salt
+  later-yes : (m n : ℕ) → ((i : ℕ) → n ≤ i → i < n + m → Passes l z salt slot i (block_at image i)) → read_later l z salt slot image n m ≡ image_with z salt
   unfolding read_later
   later-yes zero n h = refl
   later-yes (suc m) n h =
       let p = h n (omega arith) (omega arith) in
       rw (p.check, p.form, eq-eqb _ _ p.salts, eq-eqb _ _ p.slots) (later-yes m (suc n) (λ i a b. h i (omega arith) (omega arith)))
 
-  later-only : (m n : ℕ) {y : Sizes} {s : ℕ} → read_later l z salt slot image n m ≡ Image y s
+  later-only : (m n : ℕ) {y : Sizes} {s : ℕ} → read_later l z salt slot image n m ≡ image_with y s
       → (z ≡ y) × (salt ≡ s) × ((i : ℕ) → n ≤ i → i < n + m → Passes l z salt slot i (block_at image i))
   unfolding read_later
-  later-only zero n e = (cc, cc, λ i a b. absurd (omega arith))
+  later-only zero n e = let q = same_image e in (q.0, q.1, λ i a b. absurd (omega arith))
   later-only (suc m) n e =
       let b = block_at image n in
-      let one = passed (not (checks b)) (Check n) _ (omega arith) e in
-      let two = passed (not (formed l z n b)) (Form n) _ (omega arith) one.1 in
-      let three = passed (not (eqb (field 4 b 8) salt && eqb (field 4 b 12) slot)) (Mixed n) _ (omega arith) two.1 in
+      let one = passed (not (checks b)) (Check n) _ e in
+      let two = passed (not (formed l z n b)) (Form n) _ one.1 in
+      let three = passed (not (eqb (field 4 b 8) salt && eqb (field 4 b 12) slot)) (Mixed n) _ two.1 in
       let fields = not_f (eqb (field 4 b 8) salt && eqb (field 4 b 12) slot) three.0 in
       let here : Passes l z salt slot n (block_at image n)
       = record {
@@ -84,7 +92,7 @@ some_block : (z : Sizes) → Ranged z → 1 ≤ blocks z
 unfolding blocks
 some_block z r = omega arith
 
-pub accepts : (l : Layout) (z : Sizes) (salt slot : ℕ) (image : List ℕ) → Accepted l z salt slot image → read_of l image slot ≡ Image z salt
+pub accepts : (l : Layout) (z : Sizes) (salt slot : ℕ) (image : List ℕ) → Accepted l z salt slot image → read_of l image slot ≡ image_with z salt
 accepts l z salt slot image a =
     let low : 1 ≤ blocks z = some_block z a.sizes in
     let first = a.each 0 low in
@@ -94,16 +102,16 @@ accepts l z salt slot image a =
     ∙ ap (λ s. read_later l z s slot image 1 (blocks z - 1)) first.salts
     ∙ later-yes l z salt slot image (blocks z - 1) 1 (λ i p q. a.each i (omega arith))
 
-pub accepted : (l : Layout) (z : Sizes) (salt slot : ℕ) (image : List ℕ) → read_of l image slot ≡ Image z salt → Accepted l z salt slot image
+pub accepted : (l : Layout) (z : Sizes) (salt slot : ℕ) (image : List ℕ) → read_of l image slot ≡ image_with z salt → Accepted l z salt slot image
 unfolding read_of
 accepted l z salt slot image e =
     let b = block_at image 0 in
     let y = sizes_in b in
-    let one = passed (bad_length (length image)) Length _ (omega arith) e in
-    let two = passed (not (checks b)) (Check 0) _ (omega arith) one.1 in
-    let three = passed (not (in_range y && formed l y 0 b)) (Form 0) _ (omega arith) two.1 in
-    let four = passed (not (eqb (length image) (blocks y * 512))) Length _ (omega arith) three.1 in
-    let five = passed (not (eqb (field 4 b 12) slot)) Stale _ (omega arith) four.1 in
+    let one = passed (bad_length (length image)) Length _ e in
+    let two = passed (not (checks b)) (Check 0) _ one.1 in
+    let three = passed (not (in_range y && formed l y 0 b)) (Form 0) _ two.1 in
+    let four = passed (not (eqb (length image) (blocks y * 512))) Length _ three.1 in
+    let five = passed (not (eqb (field 4 b 12) slot)) Stale _ four.1 in
     let form = not_f (in_range y && formed l y 0 b) three.0 in
     let rest = later-only l y (field 4 b 8) slot image (blocks y - 1) 1 five.1 in
     let here : Passes l y (field 4 b 8) slot 0 (block_at image 0)

@@ -14,25 +14,27 @@ use Rattle.layout.specs.Sizes.{in_range, blocks}
 use Rattle.fields.specs.Field.{field}
 use Rattle.block.specs.Block.{block_at}
 use Rattle.form.specs.Form.{sizes_in, formed}
-use Rattle.reading.specs.declared.Reading.{Reading}
-use Rattle.reading.specs.declared.Reading.TheVariants.{Image, Length, Check, Form, Mixed, Stale}
-use Rattle.reading.specs.Read.{bad_length, checks, read_later, read_of, read_number, read_block}
+use Rattle.std.proofs.Common.{Result, Ok, Err}
+use Rattle.reading.specs.declared.Image.{Image}
+use Rattle.reading.specs.declared.ReadError.{ReadError}
+use Rattle.reading.specs.declared.ReadError.TheVariants.{Length, Check, Form, Mixed, Stale}
+use Rattle.reading.specs.Read.{bad_length, checks, image_with, read_later, read_of, read_number, read_block}
 use Rattle.reading.specs.First.{first_number, block_number, FirstBad}
 
 -- ---- answer and number go alike: through the three tests of a later block, and through those of the length and of block 0
 abbrev three_number : Bool → Bool → Bool → ℕ
 three_number a b c = cond (not a) 2 (cond (not b) 3 (cond (not c) 4 0))
 
-abbrev three_answer : Bool → Bool → Bool → ℕ → Reading → Reading
-three_answer a b c n on = cond (not a) (Check n) (cond (not b) (Form n) (cond (not c) (Mixed n) on))
+abbrev three_answer : Bool → Bool → Bool → ℕ → Result Image ReadError → Result Image ReadError
+three_answer a b c n on = cond (not a) (Err (Check n)) (cond (not b) (Err (Form n)) (cond (not c) (Err (Mixed n)) on))
 
-three-on : (a b c : Bool) (n : ℕ) (on : Reading) → three_number a b c ≡ 0 → three_answer a b c n on ≡ on
+three-on : (a b c : Bool) (n : ℕ) (on : Result Image ReadError) → three_number a b c ≡ 0 → three_answer a b c n on ≡ on
 three-on true true true n on e = refl
 three-on true true false n on e = absurd (omega arith)
 three-on true false c n on e = absurd (omega arith)
 three-on false b c n on e = absurd (omega arith)
 
-three-bad : (a b c : Bool) (n : ℕ) (on : Reading) → 0 < three_number a b c
+three-bad : (a b c : Bool) (n : ℕ) (on : Result Image ReadError) → 0 < three_number a b c
     → (read_number (three_answer a b c n on) ≡ three_number a b c) × (read_block (three_answer a b c n on) ≡ n)
 three-bad true true true n on h = absurd (omega arith)
 three-bad true true false n on h = (refl, refl)
@@ -42,10 +44,11 @@ three-bad false b c n on h = (refl, refl)
 abbrev five_number : Bool → Bool → Bool → Bool → Bool → ℕ
 five_number a b c d e = cond a 1 (cond (not b) 2 (cond (not c) 3 (cond (not d) 1 (cond (not e) 5 0))))
 
-abbrev five_answer : Bool → Bool → Bool → Bool → Bool → Reading → Reading
-five_answer a b c d e on = cond a Length (cond (not b) (Check 0) (cond (not c) (Form 0) (cond (not d) Length (cond (not e) Stale on))))
+abbrev five_answer : Bool → Bool → Bool → Bool → Bool → Result Image ReadError → Result Image ReadError
+five_answer a b c d e on =
+    cond a (Err Length) (cond (not b) (Err (Check 0)) (cond (not c) (Err (Form 0)) (cond (not d) (Err Length) (cond (not e) (Err Stale) on))))
 
-five-on : (a b c d e : Bool) (on : Reading) → five_number a b c d e ≡ 0 → (five_answer a b c d e on ≡ on) × (e ≡ true)
+five-on : (a b c d e : Bool) (on : Result Image ReadError) → five_number a b c d e ≡ 0 → (five_answer a b c d e on ≡ on) × (e ≡ true)
 five-on true b c d e on h = absurd (omega arith)
 five-on false false c d e on h = absurd (omega arith)
 five-on false true false d e on h = absurd (omega arith)
@@ -53,7 +56,7 @@ five-on false true true false e on h = absurd (omega arith)
 five-on false true true true false on h = absurd (omega arith)
 five-on false true true true true on h = (refl, refl)
 
-five-bad : (a b c d e : Bool) (on : Reading) → 0 < five_number a b c d e
+five-bad : (a b c d e : Bool) (on : Result Image ReadError) → 0 < five_number a b c d e
     → (read_number (five_answer a b c d e on) ≡ five_number a b c d e) × (read_block (five_answer a b c d e on) ≡ 0)
 five-bad true b c d e on h = (refl, refl)
 five-bad false false c d e on h = (refl, refl)
@@ -63,23 +66,23 @@ five-bad false true true true false on h = (refl, refl)
 five-bad false true true true true on h = absurd (omega arith)
 
 -- a later block is named by refusals alone
-refused : (r : Reading) → 0 < read_block r → 0 < read_number r
-refused (Image z salt) h = absurd (omega arith)
-refused Length h = omega arith
-refused (Check n) h = omega arith
-refused (Form n) h = omega arith
-refused (Mixed n) h = omega arith
-refused Stale h = omega arith
+refused : (r : Result Image ReadError) → 0 < read_block r → 0 < read_number r
+refused (Ok i) h = absurd (omega arith)
+refused (Err Length) h = omega arith
+refused (Err (Check n)) h = omega arith
+refused (Err (Form n)) h = omega arith
+refused (Err (Mixed n)) h = omega arith
+refused (Err Stale) h = omega arith
 
 -- ---- the later blocks
 module _ (l : Layout) (z : Sizes) (salt slot : ℕ) (image : List ℕ) where
   abbrev given : ℕ → ℕ
   given n = block_number l z salt slot n (block_at image n)
 
-  abbrev answer : ℕ → ℕ → Reading
+  abbrev answer : ℕ → ℕ → Result Image ReadError
   answer n m = read_later l z salt slot image n m
 
-  later-none : (n : ℕ) → answer n zero ≡ Image z salt
+  later-none : (n : ℕ) → answer n zero ≡ image_with z salt
   unfolding read_later
   later-none n = refl
 

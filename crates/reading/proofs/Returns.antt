@@ -13,10 +13,11 @@ use Rattle.layout.specs.declared.Layout.{Layout}
 use Rattle.layout.specs.declared.Sizes.{Sizes}
 use Rattle.layout.specs.Sizes.{in_range, blocks}
 use Rattle.fields.specs.Field.{field}
-use Rattle.reading.specs.declared.Reading.TheVariants.{Image, Length, Check, Form, Mixed, Stale}
+use Rattle.std.proofs.Common.{Err}
+use Rattle.reading.specs.declared.ReadError.TheVariants.{Length, Check, Form, Mixed, Stale}
 use Rattle.block.specs.Block.{block_at}
 use Rattle.form.specs.Form.{sizes_in, formed}
-use Rattle.reading.specs.Read.{bad_length, checks, read_later, read_of}
+use Rattle.reading.specs.Read.{bad_length, checks, image_with, read_later, read_of}
 
 -- the code's way to lend block n
 pub block-is : (n : ℕ) (image : List ℕ) → take (n * 512 + 512 - n * 512) (drop (n * 512) image) ≡ block_at image n
@@ -34,63 +35,63 @@ one_block n p =
 -- ---- the blocks after block 0: block n is b
 module _ (l : Layout) (z : Sizes) (salt slot : ℕ) (image : List ℕ) (n m : ℕ) (more : n < m) {b : List ℕ} (is : b ≡ block_at image n) where
   later-step : read_later l z salt slot image n (m - n)
-      ≡ cond (not (checks b)) (Check n)
-      (cond (not (formed l z n b)) (Form n)
-      (cond (not (eqb (field 4 b 8) salt && eqb (field 4 b 12) slot)) (Mixed n)
+      ≡ cond (not (checks b)) (Err (Check n))
+      (cond (not (formed l z n b)) (Err (Form n))
+      (cond (not (eqb (field 4 b 8) salt && eqb (field 4 b 12) slot)) (Err (Mixed n))
       (read_later l z salt slot image (n + 1) (m - (n + 1)))))
   unfolding read_later
   later-step = let e : m - n ≡ suc (m - (n + 1)) = omega arith in rw (e, is, add-one)
 
-  pub later-check : checks b ≡ false → Check n ≡ read_later l z salt slot image n (m - n)
+  pub later-check : checks b ≡ false → Err (Check n) ≡ read_later l z salt slot image n (m - n)
   later-check p = sym (rw (later-step, p))
 
   module _ (good : checks b ≡ true) where
-    pub later-form : formed l z n b ≡ false → Form n ≡ read_later l z salt slot image n (m - n)
+    pub later-form : formed l z n b ≡ false → Err (Form n) ≡ read_later l z salt slot image n (m - n)
     later-form p = sym (rw (later-step, good, p))
 
     module _ (form : formed l z n b ≡ true) where
-      pub later-salt : (field 4 b 8 ≡ salt → ⊥) → Mixed n ≡ read_later l z salt slot image n (m - n)
+      pub later-salt : (field 4 b 8 ≡ salt → ⊥) → Err (Mixed n) ≡ read_later l z salt slot image n (m - n)
       later-salt p = sym (rw (later-step, good, form, ne_eqb _ _ p))
 
-      pub later-slot : field 4 b 8 ≡ salt → (field 4 b 12 ≡ slot → ⊥) → Mixed n ≡ read_later l z salt slot image n (m - n)
+      pub later-slot : field 4 b 8 ≡ salt → (field 4 b 12 ≡ slot → ⊥) → Err (Mixed n) ≡ read_later l z salt slot image n (m - n)
       later-slot p q = sym (rw (later-step, good, form, eq-eqb _ _ p, ne_eqb _ _ q))
 
       pub later-on : field 4 b 8 ≡ salt → field 4 b 12 ≡ slot
           → read_later l z salt slot image (n + 1) (m - (n + 1)) ≡ read_later l z salt slot image n (m - n)
       later-on p q = sym (rw (later-step, good, form, eq-eqb _ _ p, eq-eqb _ _ q))
 
-pub later-end : (l : Layout) (z : Sizes) (salt slot : ℕ) (image : List ℕ) (n m : ℕ) → m ≤ n → Image z salt ≡ read_later l z salt slot image n (m - n)
+pub later-end : (l : Layout) (z : Sizes) (salt slot : ℕ) (image : List ℕ) (n m : ℕ) → m ≤ n → image_with z salt ≡ read_later l z salt slot image n (m - n)
 unfolding read_later
 later-end l z salt slot image n m h = let e : m - n ≡ 0 = omega arith in rw e
 
 -- ---- block 0, which gives the sizes z
 module _ (l : Layout) (image : List ℕ) (wanted : ℕ) where
-  pub read_length : bad_length (length image) ≡ true → Length ≡ read_of l image wanted
+  pub read_length : bad_length (length image) ≡ true → Err Length ≡ read_of l image wanted
   unfolding read_of
   read_length p = rw p
 
   module _ (len : bad_length (length image) ≡ false) where
-    pub read-check : checks (block_at image 0) ≡ false → Check 0 ≡ read_of l image wanted
+    pub read-check : checks (block_at image 0) ≡ false → Err (Check 0) ≡ read_of l image wanted
     unfolding read_of
     read-check p = rw (len, p)
 
     module _ (good : checks (block_at image 0) ≡ true) {z : Sizes} (e : z ≡ sizes_in (block_at image 0)) where
-      pub read-range : in_range z ≡ false → Form 0 ≡ read_of l image wanted
+      pub read-range : in_range z ≡ false → Err (Form 0) ≡ read_of l image wanted
       unfolding read_of
       read-range p = rw (len, good, ← e, p)
 
       module _ (range : in_range z ≡ true) where
-        pub read-form : formed l z 0 (block_at image 0) ≡ false → Form 0 ≡ read_of l image wanted
+        pub read-form : formed l z 0 (block_at image 0) ≡ false → Err (Form 0) ≡ read_of l image wanted
         unfolding read_of
         read-form p = rw (len, good, ← e, range, p)
 
         module _ (form : formed l z 0 (block_at image 0) ≡ true) where
-          pub read_short : (length image ≡ blocks z * 512 → ⊥) → Length ≡ read_of l image wanted
+          pub read_short : (length image ≡ blocks z * 512 → ⊥) → Err Length ≡ read_of l image wanted
           unfolding read_of
           read_short p = rw (len, good, ← e, range, form, ne_eqb _ _ p)
 
           module _ (whole : length image ≡ blocks z * 512) where
-            pub read-stale : (field 4 (block_at image 0) 12 ≡ wanted → ⊥) → Stale ≡ read_of l image wanted
+            pub read-stale : (field 4 (block_at image 0) 12 ≡ wanted → ⊥) → Err Stale ≡ read_of l image wanted
             unfolding read_of
             read-stale p = rw (len, good, ← e, range, form, eq-eqb _ _ whole, ne_eqb _ _ p)
 

@@ -1,12 +1,12 @@
 -- Blocks with the right check, counted up to the first that has another.
 use mathlib.Core.Path.{◌≡◌, sym, ap, ap₂, ◌∙◌}
 use mathlib.Core.Bool.{true, false, not}
-use mathlib.Core.List.{List}
-use Prim.Native.Nat.{ℕ, ◌+◌, ◌-◌, ◌*◌, ◌≤◌, ◌<◌}
+use mathlib.Core.List.{List, [], ◌∷◌}
+use Prim.Native.Nat.{ℕ, zero, suc, ◌+◌, ◌-◌, ◌*◌, ◌≤◌, ◌<◌}
 use native.Mathlib.Decide.{dec_lt}
 use native.Mathlib.Omega.{arith}
 use lib.Dec.{eqb}
-use lib.ListN.{length, take, drop, length-drop}
+use lib.ListN.{length, get_or, take, drop, length-drop}
 use lib.Seq.{take_all, take-take, drop-drop}
 use borrow.Author.Tests.{eq-eqb, ne_eqb}
 use Rattle.laws.specs.BigEndian.{number_of}
@@ -103,6 +103,16 @@ unfolding checks field
 check-at s i =
     ap₂ eqb (ap number_of (part-inside s (i * 512) 512 508 4 (omega arith)))
     (ap fnv (take-take 508 512 (drop (i * 512) s) (omega arith)))
+
+-- the checks of four blocks, as the hash gives them
+pub four-checks : (s : List ℕ) {hs : List ℕ}
+    → hs ≡ fnv (take 508 s) ∷ fnv (take 508 (drop 512 s)) ∷ fnv (take 508 (drop 1024 s)) ∷ fnv (take 508 (drop 1536 s)) ∷ []
+    → (n : ℕ) → n < 4 → get_or hs n 0 ≡ fnv (take 508 (drop (n * 512) s))
+four-checks s e zero h = rw e
+four-checks s e (suc zero) h = rw e
+four-checks s e (suc (suc zero)) h = rw e
+four-checks s e (suc (suc (suc zero))) h = rw e
+four-checks s e (suc (suc (suc (suc n)))) h = absurd (omega arith)
 
 -- block i compared
 module _ (s : List ℕ) (i : ℕ) {x h : ℕ} (read : x ≡ field 4 s (i * 512 + 508)) (hash : h ≡ fnv (take 508 (drop (i * 512) s))) where

@@ -1,15 +1,15 @@
 -- One record among the numbers of a list; a turn of each loop; a list apart and together again.
-use mathlib.Core.Path.{◌≡◌, refl, ap}
+use mathlib.Core.Path.{◌≡◌, refl, ap, ◌∙◌}
 use mathlib.Core.List.{List, ◌++◌}
-use Prim.Native.Nat.{ℕ, ◌+◌, ◌*◌, ◌/◌, ◌%◌, ◌<◌, ◌≤◌}
+use Prim.Native.Nat.{ℕ, ◌+◌, ◌-◌, ◌*◌, ◌/◌, ◌%◌, ◌<◌, ◌≤◌}
 use native.Mathlib.Nat.{div-one}
 use native.Mathlib.Omega.{arith}
 use lib.Dec.{eqb}
-use lib.ListN.{length, get_or, set, take, drop}
+use lib.ListN.{length, get_or, set, take, drop, length-append, length-drop}
 use Rattle.laws.specs.Digit.{digit}
 use Rattle.laws.specs.Upto.{list_upto, join_upto}
 use Rattle.laws.proofs.Lists.{lent-sets}
-use Rattle.laws.proofs.Upto.{element-put}
+use Rattle.laws.proofs.Upto.{element-put, length-list}
 use Rattle.laws.proofs.Rows.{row_put, row_within, length-join}
 use Rattle.layout.specs.Sizes.{ipv4_layout}
 use Rattle.list.specs.Records.{Records, records, key_at, is_known, is_handed}
@@ -69,9 +69,14 @@ pub together-none : (rs : Records) (list : List Record) → list ≡ together_up
 unfolding together_upto list_upto
 together-none rs list = refl
 
--- record i lies within numbers that have room for n
-pub record-inside : (n i : ℕ) (rs now : Records) → Wide n rs → length now.keys ≡ length rs.keys → length now.counts ≡ length rs.counts
-    → length now.flags ≡ length rs.flags → i < n
-    → (i * 13 + 13 ≤ length now.keys) × ((i < length now.counts) × (i < length now.flags))
-record-inside n i rs now w a b c h =
-    (omega (arith, w.keys-fit, row_within i n 13 h), (omega (arith, w.counts-fit), omega (arith, w.flags-fit)))
+-- record i lies within numbers of which the first i are written, where there is room for n
+pub apart-inside : (n i : ℕ) (list : List Record) (rs now : Records) → Wide n rs → i < n → now ≡ apart_upto i list rs
+    → (i * 13 + 13 ≤ length now.keys) × (i < length now.counts) × (i < length now.flags)
+unfolding apart_upto keys_upto counts_upto flags_upto
+apart-inside n i list rs now w h e =
+    let key : ℕ → List ℕ = λ j. key_bytes (at list j).key in
+    let keys : length now.keys ≡ i * 13 + (length rs.keys - i * 13) = ap (λ (x : Records). length x.keys) e
+    ∙ simp (length-append, length-drop) (ap (λ m. m + (length rs.keys - i * 13)) (length-join i 13 key (λ j l. length-key (at list j).key))) in
+    let counts : length now.counts ≡ i + (length rs.counts - i) = ap (λ (x : Records). length x.counts) e ∙ simp (length-append, length-drop, length-list) in
+    let flags : length now.flags ≡ i + (length rs.flags - i) = ap (λ (x : Records). length x.flags) e ∙ simp (length-append, length-drop, length-list) in
+    (omega (arith, w.keys-fit, row_within i n 13 h), omega (arith, w.counts-fit), omega (arith, w.flags-fit))

@@ -5,12 +5,16 @@
 ghost use Rattle.std.specs.Prelude.{◌≡◌, ◌+◌, ◌*◌, ◌<◌, ◌≤◌, length, set};
 ghost use Rattle.layout.specs.Sizes.{ipv4_layout};
 ghost use Rattle.list.specs.Records.{records, key_at};
+ghost use Rattle.list.specs.Found.{list_of, FoundKept};
+ghost use Rattle.list.specs.Seen.{list_seen};
 ghost use Rattle.packet.specs.Key.{key_from};
 ghost use Rattle.records.specs.Record.{at, AllFit, Wide, flag_byte, stored, record_at, apart_upto, together_upto};
 
+use list::{Found, FoundRef};
 use packet::Key;
 
-// A found flow.
+// A found flow. A count that is not known is kept as a number all the same, since taking the list apart and putting it together changes no byte of it:
+// so known and count are two fields here, and no option.
 #[derive(Clone, Copy)]
 pub struct Record {
     pub key: Key,
@@ -19,7 +23,7 @@ pub struct Record {
     pub handed: bool,
 }
 
-// Record i.
+// Record i. `read`, `put` and `length_of` say what a slice does in the words of specs/; theorems that docs/PROVED.md names speak of them.
 pub fn read(list: &[Record], i: usize) -> Record
     requires { i < length list.now }
     ensures { result ≡ at list.now i }
@@ -35,7 +39,8 @@ pub fn put(list: &mut [Record], i: usize, r: Record)
     list[i] = r;
 }
 
-// How many records there are. Each holds numbers that fit their types, since the slice is lent.
+// How many records there are. Each holds numbers that fit their types, since the slice is lent. That is proved by hand: of a slice of records that no code
+// reads the check knows nothing more than its length, and reading each would cost a walk over the list.
 pub fn length_of(list: &[Record]) -> usize
     ensures { (result ≡ length list.now) × AllFit list.now }
 {
@@ -48,31 +53,25 @@ pub fn length_of(list: &[Record]) -> usize
 fn flag_byte(known: bool, handed: bool) -> u8
     ensures { result ≡ flag_byte known handed }
 {
-    if known {
-        if handed {
-            return 3;
-        }
-        return 1;
+    match (known, handed) {
+        (true, true) => 3,
+        (true, false) => 1,
+        (false, true) => 2,
+        (false, false) => 0,
     }
-    if handed {
-        return 2;
-    }
-    0
 }
 
 // Writes a record as number i of the number slices.
-fn store(i: usize, r: Record, keys: &mut [u8], counts: &mut [u32], flags: &mut [u8])
-    requires { (i * 13 + 13 ≤ length keys.old) × ((i < length counts.old) × (i < length flags.old)) }
-    ensures { records keys.new counts.new flags.new
-        ≡ stored i r (records keys.old counts.old flags.old) }
+fn store(i: usize, r: Record, found: &mut Found<'_>)
+    requires { (i * 13 + 13 ≤ length found.old.keys.now) × (i < length found.old.counts.now) × (i < length found.old.flags.now) }
+    ensures value { list_of found.new ≡ stored i r (list_of found.old) }
+    ensures kept { FoundKept found.new found.old }
 {
-    let key = r.key;
-    let bytes = packet::key_bytes(key);
+    let bytes = <[u8; 13]>::from(r.key);
     let from = i * 13;
-    let to = from + 13;
-    fields::copy_in(&mut keys[from..to], &bytes);
-    counts[i] = r.count;
-    flags[i] = flag_byte(r.known, r.handed);
+    found.keys[from..from + 13].copy_from_slice(&bytes);
+    found.counts[i] = r.count;
+    found.flags[i] = flag_byte(r.known, r.handed);
 }
 
 // The key at position i.
@@ -81,22 +80,20 @@ pub fn key_at(i: usize, keys: &[u8]) -> Key
     ensures { result ≡ key_from (key_at ipv4_layout keys.now i) }
 {
     let from = i * 13;
-    let to = from + 13;
     let mut bytes = [0u8; 13];
-    fields::copy_in(&mut bytes, &keys[from..to]);
-    packet::key_from(&bytes)
+    bytes.copy_from_slice(&keys[from..from + 13]);
+    Key::from(&bytes)
 }
 
 // Record i of the number slices.
-fn load(i: usize, keys: &[u8], counts: &[u32], flags: &[u8]) -> Record
-    requires { (i * 13 + 13 ≤ length keys.now) × ((i < length counts.now) × (i < length flags.now)) }
-    ensures { result ≡ record_at (records keys.now counts.now flags.now) i }
+fn load(i: usize, found: FoundRef<'_>) -> Record
+    requires { (i * 13 + 13 ≤ length found.keys.now) × (i < length found.counts.now) × (i < length found.flags.now) }
+    ensures { result ≡ record_at (list_seen found.entry) i }
 {
-    let key = key_at(i, keys);
-    let flag = flags[i];
+    let flag = found.flags[i];
     Record {
-        key: key,
-        count: counts[i],
+        key: key_at(i, found.keys),
+        count: found.counts[i],
         known: flag % 2 == 1,
         handed: flag / 2 % 2 == 1,
     }
@@ -110,11 +107,13 @@ pub fn take_apart(list: &[Record], n: usize, keys: &mut [u8], counts: &mut [u32]
     ensures { records keys.new counts.new flags.new
         ≡ apart_upto n list.now (records keys.old counts.old flags.old) }
 {
-    let mut i: usize = 0;
-    while i < n {
-        let r = read(list, i);
-        store(i, r, keys, counts, flags);
-        i = i + 1;
+    let mut found = Found {
+        keys,
+        counts,
+        flags,
+    };
+    for i in 0..n {
+        store(i, read(list, i), &mut found);
     }
 }
 
@@ -124,10 +123,12 @@ pub fn put_back(list: &mut [Record], n: usize, keys: &[u8], counts: &[u32], flag
     ensures { list.new
         ≡ together_upto n (records keys.now counts.now flags.now) list.old }
 {
-    let mut i: usize = 0;
-    while i < n {
-        let r = load(i, keys, counts, flags);
-        put(list, i, r);
-        i = i + 1;
+    let found = FoundRef {
+        keys,
+        counts,
+        flags,
+    };
+    for i in 0..n {
+        put(list, i, load(i, found));
     }
 }

@@ -1,6 +1,6 @@
 -- The lengths as facts, and each way out of the tests.
 use mathlib.Core.Path.{◌≡◌}
-use mathlib.Core.Bool.{Bool, true, false, ◌&&◌}
+use mathlib.Core.Bool.{true, false, ◌&&◌}
 use Prim.Native.Nat.{ℕ, ◌*◌, ◌≤◌}
 use native.Mathlib.Nat.{mul-le-mul}
 use native.Mathlib.Omega.{arith}
@@ -110,33 +110,6 @@ module _ (l : Layout) (z : Sizes) (lays : Lays l) (r : Ranged z) where
     table-asked m.table f.table,
     list-asked m.list f.room,
   )
-
-  -- where all but the last length are right, the last decides
-  pub table-last : (t : Tab) {b : Bool} → length t.xors ≡ table_cells l z * l.key → length t.flows ≡ table_cells l z
-      → length t.unknowns ≡ table_cells l z → length t.positions ≡ table_cells l z
-      → b ≡ eqb (length t.marks) (words_for (table_cells l z)) → b ≡ table_fits l z t
-  unfolding table_fits
-  table-last t e₁ e₂ e₃ e₄ e =
-      let n = table_cells l z in
-      rw (
-        eq-eqb (length t.xors) (n * l.key) e₁,
-        eq-eqb (length t.flows) n e₂,
-        eq-eqb (length t.unknowns) n e₃,
-        eq-eqb (length t.positions) n e₄,
-      ) e
-
-  pub list-last : (rs : Records) {b : Bool} → length rs.keys ≡ 2 * table_cells l z * l.key → length rs.counts ≡ 2 * table_cells l z
-      → b ≡ eqb (length rs.flags) (2 * table_cells l z) → b ≡ list_fits l z rs
-  unfolding list_fits
-  list-last rs e₁ e₂ e =
-      let n = 2 * table_cells l z in
-      rw (eq-eqb (length rs.keys) (n * l.key) e₁, eq-eqb (length rs.counts) n e₂) e
-
-  pub rooms-last : (m : Memory) {b : Bool} → length m.filter ≡ filter_bytes z → length m.packets ≡ table_cells l z
-      → table_fits l z m.table ≡ true → b ≡ list_fits l z m.list → b ≡ room_fits l z m
-  unfolding room_fits
-  rooms-last m e₁ e₂ e₃ e =
-      rw (eq-eqb (length m.filter) (filter_bytes z) e₁, eq-eqb (length m.packets) (table_cells l z) e₂, e₃) e
 
 -- ---- the test of every call on a session: each way it goes
 module _ {A : Type 0} (l : Layout) (s : Session) (m : Memory) (notSession badRoom passed : A) where

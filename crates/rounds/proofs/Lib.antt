@@ -1,6 +1,5 @@
--- Laws of the rounds.
-pub mod Both
+-- The rounds, as the code goes through them.
 pub mod Steps
-pub mod Gives
+pub mod Handed
 pub mod Rounds
 pub mod Outcomes

@@ -1,226 +1,105 @@
--- Settling both sessions: what the calls need, and what they leave.
-use mathlib.Core.Path.{◌≡◌, refl, sym, ap, ap₂, subst, ◌∙◌}
-use mathlib.Core.List.{List, ◌++◌}
-use Prim.Native.Nat.{ℕ, ◌-◌, ◌≤◌}
-use native.Mathlib.Omega.{arith}
-use lib.ListN.{length, take, drop, length-append, length-drop, take-append-drop}
-use lib.Seq.{take_all}
+-- What settling both and handing lists over leaves of the two sessions.
+use Rattle.std.proofs.Common.{◌≡◌, refl, ap, ◌∙◌, List, length, ℕ, ◌+◌, ◌*◌, ◌≤◌, ◌<◌, Ok, Err, arith}
+use Rattle.std.specs.Prelude.{⊤}
+use native.Mathlib.Nat.{mul-le-mul}
+use Rattle.laws.proofs.Rows.{row_within}
 use Rattle.layout.specs.declared.Layout.{Layout}
-use Rattle.layout.specs.declared.Sizes.{Sizes}
+use Rattle.layout.specs.Sizes.{table_cells, filter_bytes}
 use Rattle.layout.proofs.Ranges.{table-high}
-use Rattle.peeling.specs.Peel.{listed_at}
-use Rattle.peeling.specs.declared.Stop.{Stop}
-use Rattle.peeling.specs.declared.Stop.TheVariants.{Done, Damaged}
-use Rattle.room.specs.declared.Session.{Session}
-use Rattle.parts.specs.declared.Place.{Place}
-use Rattle.parts.specs.Sides.{Switch, Side, Stands, settle_side}
-use Rattle.parts.specs.Areas.{origin, place_after, between, table_at, list_at_place, Inside, Areas, areas, part_at}
-use Rattle.ending.specs.declared.Round.{Round}
-use Rattle.ending.specs.Over.{ending_a, ending_b, round_of}
-use Rattle.rounds.specs.Rounds.{ended, pair, then_b, settle_both}
-use Rattle.rounds.specs.Joined.{switch_of, joined_table, joined_list, joined_sides, left, left_by, Ends, Both}
-use Rattle.rounds.proofs.Both.{stands-long, Lies, lies-a, lies-b}
+use Rattle.list.proofs.Laws.{length-key}
+use Rattle.peeling.specs.Peel.{Stop}
+use Rattle.settling.proofs.Laws.{settle-lasts}
+use Rattle.ending.specs.declared.Switch.TheVariants as by
+use Rattle.ending.specs.declared.Stopped.{Stopped}
+use Rattle.ending.specs.Over.{Ending, ending_of}
+use Rattle.parts.specs.Sides.{Switch, Side, Stands, Rested, rested, settle_side, given, hand_list, with_given}
+use Rattle.parts.proofs.Hands.{keys-ready}
+use Rattle.rounds.specs.Rounds.{Pair, pair, ended, then_b, settle_both, hand_both, round}
 
-halves : (i j : ℕ) (s : List ℕ) → i ≤ j → length s ≡ j → between 0 i s ++ between i j s ≡ s
-halves i j s up full =
-    ap₂ (λ n x. take n s ++ x) (sub-none i) (take_all (j - i) (drop i s) (rw length-drop (omega (arith, full)))) ∙ take-append-drop i s
-  where
-    sub-none : (n : ℕ) → n - 0 ≡ n
-    sub-none n = omega arith
-
-module _ {l : Layout} {y z : Sizes} {p e : Place} {r : Areas} (h : Ends l y z p e r) where
-  -- where the places are, in numbers
-  pub record Numbers : Type 0 where
-    pub cells_up : p.cells ≤ e.cells
-    pub cells-few : e.cells ≤ 3072
-    pub xors-up : p.xors ≤ e.xors
-    pub words_up : p.words ≤ e.words
-    pub words-few : e.words ≤ 192
-    pub records-up : p.records ≤ e.records
-    pub records-few : e.records ≤ 6144
-    pub keys-up : p.keys ≤ e.keys
-    pub seen_up : p.seen ≤ e.seen
-    pub seen_few : e.seen ≤ 90112
-    pub filter-up : p.filter ≤ e.filter
-
-  pub numbers-at : Numbers
-  unfolding place_after
-  numbers-at =
-      let m = h.seam-is in
-      let n = h.end_is in
-      let u = table-high l y h.lays h.ranged-a in
-      let v = table-high l z h.lays h.ranged-b in
-      record {
-        cells_up = omega (arith, ap (λ (q : Place). q.cells) n);
-        cells-few = omega (arith, ap (λ (q : Place). q.cells) n, ap (λ (q : Place). q.cells) m, u, v);
-        xors-up = omega (arith, ap (λ (q : Place). q.xors) n);
-        words_up = omega (arith, ap (λ (q : Place). q.words) n);
-        words-few = omega (arith, ap (λ (q : Place). q.words) n, ap (λ (q : Place). q.words) m, u, v);
-        records-up = omega (arith, ap (λ (q : Place). q.records) n);
-        records-few = omega (arith, ap (λ (q : Place). q.records) n, ap (λ (q : Place). q.records) m, u, v);
-        keys-up = omega (arith, ap (λ (q : Place). q.keys) n);
-        seen_up = omega (arith, ap (λ (q : Place). q.seen) n);
-        seen_few = omega (arith, ap (λ (q : Place). q.seen) n, ap (λ (q : Place). q.seen) m);
-        filter-up = omega (arith, ap (λ (q : Place). q.filter) n);
-      }
-
-  -- ---- the two parts lie in the areas
-  pub first-inside : Inside origin p r.table r.list r.seen
-  first-inside = let n = numbers-at in record {
-    xors-up = omega arith;
-    xors-in = omega (arith, n.xors-up, h.full.xors-full);
-    cells_up = omega arith;
-    cells-few = omega (arith, n.cells_up, n.cells-few);
-    flows-in = omega (arith, n.cells_up, h.full.flows-full);
-    unknowns-in = omega (arith, n.cells_up, h.full.unknowns-full);
-    positions-in = omega (arith, n.cells_up, h.full.positions-full);
-    words_up = omega arith;
-    words-few = omega (arith, n.words_up, n.words-few);
-    marks-in = omega (arith, n.words_up, h.full.marks-full);
-    keys-up = omega arith;
-    keys_in = omega (arith, n.keys-up, h.full.keys-full);
-    records-up = omega arith;
-    records-few = omega (arith, n.records-up, n.records-few);
-    counts-in = omega (arith, n.records-up, h.full.counts-full);
-    flags-in = omega (arith, n.records-up, h.full.flags_full);
-    seen_up = omega arith;
-    seen_few = omega (arith, n.seen_up, n.seen_few);
-    seen-in = omega (arith, n.seen_up, h.seen-full);
-  }
-
-  pub second-inside : Inside p e r.table r.list r.seen
-  second-inside = let n = numbers-at in record {
-    xors-up = n.xors-up;
-    xors-in = omega (arith, h.full.xors-full);
-    cells_up = n.cells_up;
-    cells-few = omega (arith, n.cells-few);
-    flows-in = omega (arith, h.full.flows-full);
-    unknowns-in = omega (arith, h.full.unknowns-full);
-    positions-in = omega (arith, h.full.positions-full);
-    words_up = n.words_up;
-    words-few = n.words-few;
-    marks-in = omega (arith, h.full.marks-full);
-    keys-up = n.keys-up;
-    keys_in = omega (arith, h.full.keys-full);
-    records-up = n.records-up;
-    records-few = omega (arith, n.records-few);
-    counts-in = omega (arith, h.full.counts-full);
-    flags-in = omega (arith, h.full.flags_full);
-    seen_up = n.seen_up;
-    seen_few = n.seen_few;
-    seen-in = omega (arith, h.seen-full);
-  }
-
-module _ {l : Layout} {s t : Session} {p e : Place} {a b : ℕ} {r : Areas} (h : Both l s t p e a b r) where
-  pub numbers : Numbers h.ends
-  numbers = numbers-at h.ends
-
-  pub inside-a : Inside origin p r.table r.list r.seen
-  inside-a = first-inside h.ends
-
-  pub inside-b : Inside p e r.table r.list r.seen
-  inside-b = second-inside h.ends
-
-  pub packets-a : p.cells ≤ length r.packets
-  packets-a = omega (arith, numbers.cells_up, h.ends.full.packets-full)
-
-  pub packets-b : e.cells ≤ length r.packets
-  packets-b = omega (arith, h.ends.full.packets-full)
-
-  pub lies-start : Lies l (switch_of s) (switch_of t) p e h.ends.seam-is h.ends.end_is (part_at origin p a r) (part_at p e b r) r
-  unfolding table_at list_at_place joined_table joined_list
-  lies-start = let n = numbers in record {
-    is = sym (λ k. areas
-        (record {
-          xors = halves p.xors e.xors r.table.xors n.xors-up h.ends.full.xors-full k;
-          flows = halves p.cells e.cells r.table.flows n.cells_up h.ends.full.flows-full k;
-          unknowns = halves p.cells e.cells r.table.unknowns n.cells_up h.ends.full.unknowns-full k;
-          positions = halves p.cells e.cells r.table.positions n.cells_up h.ends.full.positions-full k;
-          marks = halves p.words e.words r.table.marks n.words_up h.ends.full.marks-full k;
-        })
-        (halves p.cells e.cells r.packets n.cells_up h.ends.full.packets-full k)
-        (record {
-          keys = halves p.keys e.keys r.list.keys n.keys-up h.ends.full.keys-full k;
-          counts = halves p.records e.records r.list.counts n.records-up h.ends.full.counts-full k;
-          flags = halves p.records e.records r.list.flags n.records-up h.ends.full.flags_full k;
-        })
-        (halves p.seen e.seen r.seen n.seen_up h.ends.seen-full k));
-    stands-a = h.stands-a;
-    stands_b = h.stands_b;
-  }
-
-  -- ---- what stands where both lie in the areas
-  pub lies-both : {a' b' : Side} {r' : Areas} → Lies l (switch_of s) (switch_of t) p e h.ends.seam-is h.ends.end_is a' b' r'
-      → Both l s t p e a'.listed b'.listed r'
-  unfolding joined_table joined_list
-  lies-both {a'} {b'} {r'} g =
-      let i = stands-long l (switch_of s) origin p a' h.ends.seam-is g.stands-a in
-      let j = stands-long l (switch_of t) p e b' h.ends.end_is g.stands_b in
-      let n = numbers in
-      let full : (f : Areas → List ℕ) (u v : List ℕ) (x y : ℕ) → f (joined_sides a' b') ≡ u ++ v → length u ≡ x - 0 → length v ≡ y - x → x ≤ y
-      → length (f r') ≡ y = λ f u v x y q first second up.
-      ap (λ (w : Areas). length (f w)) g.is ∙ ap length q ∙ length-append u v ∙ omega (arith, first, second, up) in
-      record {
-        ends = record {
-          lays = h.ends.lays;
-          ranged-a = h.ends.ranged-a;
-          ranged-b = h.ends.ranged-b;
-          seam-is = h.ends.seam-is;
-          end_is = h.ends.end_is;
-          full = record {
-            xors-full = full (λ w. w.table.xors) a'.table.xors b'.table.xors p.xors e.xors refl i.fills.xors-fill j.fills.xors-fill n.xors-up;
-            flows-full = full (λ w. w.table.flows) a'.table.flows b'.table.flows p.cells e.cells refl i.fills.flows-fill j.fills.flows-fill n.cells_up;
-            unknowns-full = full (λ w. w.table.unknowns) a'.table.unknowns b'.table.unknowns p.cells e.cells refl i.fills.unknowns-fill j.fills.unknowns-fill n.cells_up;
-            positions-full = full (λ w. w.table.positions) a'.table.positions b'.table.positions p.cells e.cells refl i.fills.positions-fill j.fills.positions-fill n.cells_up;
-            marks-full = full (λ w. w.table.marks) a'.table.marks b'.table.marks p.words e.words refl i.fills.marks-fill j.fills.marks-fill n.words_up;
-            packets-full = full (λ w. w.packets) a'.packets b'.packets p.cells e.cells refl i.packets-fill j.packets-fill n.cells_up;
-            keys-full = full (λ w. w.list.keys) a'.list.keys b'.list.keys p.keys e.keys refl i.fills.keys-fill j.fills.keys-fill n.keys-up;
-            counts-full = full (λ w. w.list.counts) a'.list.counts b'.list.counts p.records e.records refl i.fills.counts-fill j.fills.counts-fill n.records-up;
-            flags_full = full (λ w. w.list.flags) a'.list.flags b'.list.flags p.records e.records refl i.fills.flags-fill j.fills.flags-fill n.records-up;
-          };
-          seen-full = full (λ w. w.seen) a'.seen b'.seen p.seen e.seen refl i.fills.seen-fill j.fills.seen-fill n.seen_up;
-        };
-        stands-a = subst (Stands l (switch_of s)) (sym (lies-a l (switch_of s) (switch_of t) p e h.ends.seam-is h.ends.end_is g)) g.stands-a;
-        stands_b = subst (Stands l (switch_of t)) (sym (lies-b l (switch_of s) (switch_of t) p e h.ends.seam-is h.ends.end_is g)) g.stands_b;
-      }
-
-  pub lies_at : {a' b' : Side} {r' : Areas} → Lies l (switch_of s) (switch_of t) p e h.ends.seam-is h.ends.end_is a' b' r' → {x y : ℕ} → x ≡ a'.listed
-      → y ≡ b'.listed → Both l s t p e x y r'
-  lies_at {a'} {b'} {r'} g {x} i j =
-      subst (λ m. Both l s t p e x m r') (sym j) (subst (λ n. Both l s t p e n b'.listed r') (sym i) (lies-both g))
+-- settling keeps all in its room
+pub settled-stands : (l : Layout) (w : Switch) (s : Side) → Stands l w s → Stands l w (settle_side l w s).left
+unfolding settle_side
+settled-stands l w s h =
+    let r = settle-lasts l w.sizes w.salt s.listed s.table s.packets s.list s.seen h.steady h.packets-fit in
+    record { steady = r.steady; packets-fit = r.packets-fit }
 
 -- ---- how both settlings end
-module _ (l : Layout) (A B : Switch) (a b : Side) (twelves : ℕ) where
-  listed-left : (w : Switch) (x : Side) → (settle_side l w x).left.listed ≡ listed_at (settle_side l w x).stop
-  unfolding settle_side
-  listed-left w x = refl
-
-  -- A's settling did not go through
-  stop-a : (x : Stop) → ((n : ℕ) → x ≡ Done n → ⊥)
-      → ended (ending_a x) (pair (settle_side l A a).left b twelves) ≡ then_b l B (settle_side l A a).left b twelves x
+module _ (l : Layout) (A B : Switch) where
+  stop-a : (x b : Side) (twelves : ℕ) (r : Stop) {d : Stopped} → Err d ≡ ending_of by.A r
+      → ended (Err d) (pair x b twelves) ≡ then_b l B x b twelves r
   unfolding then_b
-  stop-a (Done n) h = absurd (h n refl)
-  stop-a (Damaged n c) h = refl
+  stop-a x b twelves (Ok n) q = absurd (cc)
+  stop-a x b twelves (Err e) q = ap (λ o. ended o (pair x b twelves)) q
 
-  pub both_stopped : {x : Stop} {r : Round} {s : Areas} → ((n : ℕ) → x ≡ Done n → ⊥) → x ≡ (settle_side l A a).stop
-      → r ≡ round_of (listed_at x) b.listed twelves (ending_a x) → s ≡ joined_sides (settle_side l A a).left b
-      → left r s ≡ left_by (settle_both l A B (pair a b twelves))
-  unfolding settle_both
-  both_stopped {x} h q n m =
-      ap₂ left (n ∙ ap (λ k. round_of k b.listed twelves (ending_a x)) (ap listed_at q ∙ sym (listed-left A a))) m
-      ∙ ap left_by (stop-a x h ∙ ap (then_b l B (settle_side l A a).left b twelves) q)
-
-  -- both settlings
-  then-done : {n : ℕ} (x : Stop) → x ≡ Done n → then_b l B (settle_side l A a).left b twelves x
-      ≡ ended (ending_b (settle_side l B b).stop) (pair (settle_side l A a).left (settle_side l B b).left twelves)
+  on-b : (x b : Side) (twelves : ℕ) (r : Stop) {u : ⊤} → Ok u ≡ ending_of by.A r
+      → ended (ending_of by.B (settle_side l B b).stop) (pair x (settle_side l B b).left twelves) ≡ then_b l B x b twelves r
   unfolding then_b
-  then-done x q = rw q
+  on-b x b twelves (Ok n) q = refl
+  on-b x b twelves (Err e) q = absurd (cc)
 
-  pub both-settled : {x y : Stop} {n : ℕ} {r : Round} {s : Areas} → x ≡ Done n → x ≡ (settle_side l A a).stop → y ≡ (settle_side l B b).stop
-      → r ≡ round_of n (listed_at y) twelves (ending_b y) → s ≡ joined_sides (settle_side l A a).left (settle_side l B b).left
-      → left r s ≡ left_by (settle_both l A B (pair a b twelves))
+  module _ (p : Pair) {r : Stop} {x : Side} (e : rested r x ≡ settle_side l A p.a) where
+    then-is : then_b l B x p.b p.twelves r ≡ settle_both l A B p
+    unfolding settle_both
+    then-is = ap (λ (s : Rested). then_b l B s.left p.b p.twelves s.stop) e
+
+    pub both-stopped : {d : Stopped} → Err d ≡ ending_of by.A r → ended (Err d) (pair x p.b p.twelves) ≡ settle_both l A B p
+    both-stopped q = stop-a x p.b p.twelves r q ∙ then-is
+
+    pub both-settled : {u : ⊤} → Ok u ≡ ending_of by.A r → {r' : Stop} {y : Side} → rested r' y ≡ settle_side l B p.b → {o : Ending} → o ≡ ending_of by.B r'
+        → ended o (pair x y p.twelves) ≡ settle_both l A B p
+    both-settled q {r'} {y} f {o} i =
+        ap (λ v. ended v (pair x y p.twelves)) i
+        ∙ ap (λ (s : Rested). ended (ending_of by.B s.stop) (pair x s.left p.twelves)) f
+        ∙ on-b x p.b p.twelves r q ∙ then-is
+
+-- ---- lists handed over
+-- the keys of a session
+key-sized : (l : Layout) (w : Switch) (s : Side) → Stands l w s → (i : ℕ) → i < s.listed → i * l.key + l.key ≤ length s.list.keys
+key-sized l w s h i q =
+    omega (arith, row_within i (2 * table_cells l w.sizes) l.key (omega (arith, q, h.steady.fits.listed)), h.steady.fits.room.keys-fit)
+
+-- its list fills no more than its keys' bytes
+pub keys-within : (l : Layout) (w : Switch) (s : Side) → Stands l w s → s.listed * l.key ≤ length s.list.keys
+keys-within l w s h = let most = mul-le-mul {n₁ = s.listed} {m₁ = l.key} {n₂ = 2 * table_cells l w.sizes} {m₂ = l.key} h.steady.fits.listed (omega arith) in
+    omega (arith, most, h.steady.fits.room.keys-fit)
+
+pub listed-few : (l : Layout) (w : Switch) (s : Side) → Stands l w s → s.listed ≤ 3072
+listed-few l w s h = let fits = h.steady.fits in omega (arith, fits.listed, table-high l w.sizes fits.table.lays fits.table.ranged)
+
+pub given-stands : (l : Layout) (w : Switch) (filter : List ℕ) (from : Side) (v : Switch) (to : Side) → Stands l v from → Stands l w to
+    → length filter ≡ filter_bytes w.sizes
+    → Stands l w (with_given to (hand_list l w filter from.list.keys from.listed to))
+unfolding hand_list
+given-stands l w filter from v to g h f = record {
+  steady = keys-ready l w.sizes w.salt filter from.list.keys from.listed f
+      (λ i q. length-key l from.list.keys i (key-sized l v from g i q)) (given to.listed 0 to.table to.list to.seen) h.steady;
+  packets-fit = h.packets-fit;
+}
+
+-- ---- a round keeps both in their room
+pub record Stand (l : Layout) (A B : Switch) (p : Pair) : Type 0 where
+  pub stands-a : Stands l A p.a
+  pub stands_b : Stands l B p.b
+
+module _ (l : Layout) (A B : Switch) where
+  then-stands : (a b : Side) (twelves : ℕ) → Stands l A a → Stands l B b → (x : Stop) → Stand l A B (then_b l B a b twelves x).pair
+  unfolding then_b
+  then-stands a b twelves f g (Ok n) = record { stands-a = f; stands_b = settled-stands l B b g }
+  then-stands a b twelves f g (Err d) = record { stands-a = f; stands_b = g }
+
+  pub both-stand : (p : Pair) → Stand l A B p → Stand l A B (settle_both l A B p).pair
   unfolding settle_both
-  both-settled {x} {y} {n} d q g m o =
-      ap₂ left
-      (m ∙ (λ k. round_of ((ap listed_at (sym d ∙ q) ∙ sym (listed-left A a)) k) ((ap listed_at g ∙ sym (listed-left B b)) k) twelves (ending_b (g k)))) o
-      ∙ ap left_by (sym (then-done (settle_side l A a).stop (sym q ∙ d)))
+  both-stand p h =
+      then-stands (settle_side l A p.a).left p.b p.twelves (settled-stands l A p.a h.stands-a) h.stands_b (settle_side l A p.a).stop
+
+  module _ (f g : List ℕ) (f-fits : length f ≡ filter_bytes A.sizes) (g-fits : length g ≡ filter_bytes B.sizes) (p : Pair) (h : Stand l A B p) where
+    pub hand-stands : Stand l A B (hand_both l A f B g p)
+    unfolding hand_both
+    hand-stands =
+        let b = given-stands l B g p.a A p.b h.stands-a h.stands_b g-fits in
+        let to_b = hand_list l B g p.a.list.keys p.a.listed p.b in
+        record { stands-a = given-stands l A f (with_given p.b to_b) B p.a b h.stands-a f-fits; stands_b = b }
+
+    pub round-stands : Stand l A B (round l A f B g p).pair
+    unfolding round
+    round-stands = both-stand (hand_both l A f B g p) hand-stands

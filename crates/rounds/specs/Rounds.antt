@@ -1,13 +1,10 @@
 -- The rounds of an exchange of two sessions: 01 'A session', "Exchange of A and B".
-use Rattle.std.specs.Prelude.{cond, List, ℕ, zero, suc, ◌+◌, ◌*◌}
+use Rattle.std.specs.Prelude.{cond, List, ℕ, zero, suc, ◌+◌, ◌*◌, Ok, Err}
 use Rattle.layout.specs.declared.Layout.{Layout}
 use Rattle.layout.specs.Sizes.{table_cells}
-use Rattle.peeling.specs.declared.Stop.{Stop}
-use Rattle.peeling.specs.declared.Stop.TheVariants as stop
+use Rattle.peeling.specs.Peel.{Stop}
 use Rattle.parts.specs.Sides.{Switch, Side, settle_side, hand_list, with_given}
-use Rattle.ending.specs.declared.Ending.{Ending}
-use Rattle.ending.specs.declared.Ending.TheVariants as end
-use Rattle.ending.specs.Over.{ending_a, ending_b, is_over}
+use Rattle.ending.specs.Over.{Ending, ending_a, ending_b, is_over}
 
 -- both sides, and the number of answers 12 so far
 pub record Pair : Type 0 where
@@ -28,8 +25,8 @@ ended ending p = record { ending = ending; pair = p }
 
 -- B is settled only where A's settling went through
 unfoldable pub then_b : Layout → Switch → Side → Side → ℕ → Stop → Ended
-then_b l B a b twelves (stop.Done n) = let t = settle_side l B b in ended (ending_b t.stop) (pair a t.left twelves)
-then_b l B a b twelves (stop.Damaged n c) = ended (ending_a (stop.Damaged n c)) (pair a b twelves)
+then_b l B a b twelves (Ok n) = let t = settle_side l B b in ended (ending_b t.stop) (pair a t.left twelves)
+then_b l B a b twelves (Err d) = ended (ending_a (Err d)) (pair a b twelves)
 
 -- 01 'A session', Exchange: "settle A, settle B"
 unfoldable pub settle_both : Layout → Switch → Switch → Pair → Ended
@@ -48,7 +45,7 @@ round l A f B g p = settle_both l A B (hand_both l A f B g p)
 
 -- at most so many rounds
 unfoldable pub rounds : ℕ → Layout → Switch → List ℕ → Switch → List ℕ → Pair → Ended
-rounds zero l A f B g p = ended end.Settled p
+rounds zero l A f B g p = ended (Ok tt) p
 rounds (suc m) l A f B g p =
     let r = round l A f B g p in
     let q = r.pair in
@@ -60,9 +57,8 @@ most_rounds l A B = 2 * table_cells l A.sizes + 2 * table_cells l B.sizes + 1
 
 -- the rounds, where the two settlings before them went through
 unfoldable pub then_rounds : Layout → Switch → List ℕ → Switch → List ℕ → Pair → Ending → Ended
-then_rounds l A f B g p end.Settled = rounds (most_rounds l A B) l A f B g p
-then_rounds l A f B g p (end.DamagedA c) = ended (end.DamagedA c) p
-then_rounds l A f B g p (end.DamagedB c) = ended (end.DamagedB c) p
+then_rounds l A f B g p (Ok done) = rounds (most_rounds l A B) l A f B g p
+then_rounds l A f B g p (Err d) = ended (Err d) p
 
 -- 01 'A session', Exchange: "settle A, settle B; a round ..; it ends after a round in which neither list grew"
 unfoldable pub exchange_sides : Layout → Switch → List ℕ → Switch → List ℕ → Pair → Ended

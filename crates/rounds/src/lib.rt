@@ -1,254 +1,83 @@
 // The rounds of an exchange: each session hands its list to the other and both are settled, until a round in which neither list grew.
-// Their room is lent together, one area of each kind, A's part first, then B's. It rests on parts for what is done to one session, and on ending for how it ends.
+// It rests on parts for what is done to one session, and on ending for how it ends.
 #![tactic(auto)]
 
-ghost use Rattle.std.specs.Prelude.{◌≡◌, ◌≤◌, length};
-ghost use Rattle.hash.specs.Salted.{after_salt};
-ghost use Rattle.list.specs.Records.{records};
-ghost use Rattle.table.specs.Table.{tab};
-ghost use Rattle.parts.specs.Areas.{between, areas};
-ghost use Rattle.rounds.specs.Rounds.{settle_both, round, rounds, exchange_sides};
-ghost use Rattle.rounds.specs.Joined.{switch_of, pair_in, left, left_by, Both};
+ghost use Rattle.std.specs.Prelude.{◌≡◌, ℕ, ◌+◌, ◌≤◌};
+ghost use Rattle.parts.specs.Parts.{switch_in, PartKept};
+ghost use Rattle.rounds.specs.Rounds.{ended, settle_both, round, rounds, exchange_sides};
+ghost use Rattle.rounds.specs.Meets.{pair_in, Meets};
 
-use ending::{Ending, Round};
-use hash::Salted;
-use layout::Layout;
-use parts::Place;
-use peeling::Stop;
-use room::Session;
+use ending::{Stopped, Switch};
+use parts::Part;
 
-// Settles A, then B. They meet at p and end at e; a and b flows are listed.
-fn settle_both(
-    l: Layout,
-    s: Session,
-    t: Session,
-    h: Salted,
-    g: Salted,
-    p: Place,
-    e: Place,
-    a: usize,
-    b: usize,
-    twelves: usize,
-    xors: &mut [u8],
-    flows: &mut [u16],
-    packets: &mut [u32],
-    unknowns: &mut [u16],
-    positions: &mut [u16],
-    marks: &mut [u64],
-    keys: &mut [u8],
-    counts: &mut [u32],
-    flags: &mut [u8],
-    seen: &mut [u16],
-) -> Round
-    requires { Both l s t p e a b (areas (tab xors.old flows.old unknowns.old positions.old marks.old) packets.old
-        (records keys.old counts.old flags.old) seen.old) × (h ≡ after_salt s.salt) × (g ≡ after_salt t.salt) }
-    ensures { left result (areas (tab xors.new flows.new unknowns.new positions.new marks.new) packets.new
-        (records keys.new counts.new flags.new) seen.new)
-        ≡ left_by (settle_both l (switch_of s) (switch_of t) (pair_in p e a b twelves (areas (tab xors.old flows.old unknowns.old positions.old marks.old) packets.old
-        (records keys.old counts.old flags.old) seen.old))) }
+// Two parts and the count stay three parameters: of a struct of `&mut` parts the check has no rule for what is left behind. The count is lent, since a 14 keeps it too.
+
+// Settles A, then B.
+fn settle_both(a: &mut Part<'_>, b: &mut Part<'_>) -> Result<(), Stopped>
+    requires { Meets a.old b.old }
+    ensures value { (twelves : ℕ) → ended result (pair_in a.new b.new twelves)
+        ≡ settle_both a.old.placing.shape.layout (switch_in a.old) (switch_in b.old) (pair_in a.old b.old twelves) }
+    ensures kept_a { PartKept a.new a.old }
+    ensures kept_b { PartKept b.new b.old }
 {
-    let x = parts::settle_part(
-        l,
-        s.sizes,
-        s.salt,
-        h,
-        parts::origin(),
-        p,
-        a,
-        xors,
-        flows,
-        packets,
-        unknowns,
-        positions,
-        marks,
-        keys,
-        counts,
-        flags,
-        seen,
-    );
-    let Stop::Done { listed } = x else {
-        return ending::after_a(x, b, twelves);
-    };
-    let y = parts::settle_part(
-        l, t.sizes, t.salt, g, p, e, b, xors, flows, packets, unknowns, positions, marks, keys,
-        counts, flags, seen,
-    );
-    ending::after_b(listed, y, twelves)
+    ending::ending_of(Switch::A, a.settle())?;
+    ending::ending_of(Switch::B, b.settle())
 }
 
-// A round: A's list is handed over to B, then B's to A, and both are settled.
-fn one_round(
-    l: Layout,
-    s: Session,
-    t: Session,
-    h: Salted,
-    g: Salted,
-    p: Place,
-    e: Place,
-    a: usize,
-    b: usize,
-    twelves: usize,
-    filter: &[u8],
-    xors: &mut [u8],
-    flows: &mut [u16],
-    packets: &mut [u32],
-    unknowns: &mut [u16],
-    positions: &mut [u16],
-    marks: &mut [u64],
-    keys: &mut [u8],
-    counts: &mut [u32],
-    flags: &mut [u8],
-    seen: &mut [u16],
-) -> Round
-    requires { Both l s t p e a b (areas (tab xors.old flows.old unknowns.old positions.old marks.old) packets.old
-        (records keys.old counts.old flags.old) seen.old) × (length filter.now ≡ e.filter) × (twelves ≤ 1073741824) × (h ≡ after_salt s.salt) × (g ≡ after_salt t.salt) }
-    ensures { left result (areas (tab xors.new flows.new unknowns.new positions.new marks.new) packets.new
-        (records keys.new counts.new flags.new) seen.new)
-        ≡ left_by (round l (switch_of s) (between 0 p.filter filter.now) (switch_of t) (between p.filter e.filter filter.now) (pair_in p e a b twelves (areas (tab xors.old flows.old unknowns.old positions.old marks.old) packets.old
-        (records keys.old counts.old flags.old) seen.old))) }
+// A round: A's list is handed over to B, then B's to A, and both are settled. The answers 12 are counted.
+fn one_round(a: &mut Part<'_>, b: &mut Part<'_>, twelves: &mut usize) -> Result<(), Stopped>
+    requires { Meets a.old b.old × (twelves.old ≤ 1073741824) }
+    ensures value { ended result (pair_in a.new b.new twelves.new)
+        ≡ round a.old.placing.shape.layout (switch_in a.old) a.old.filter.now (switch_in b.old) b.old.filter.now (pair_in a.old b.old twelves.old) }
+    ensures kept_a { PartKept a.new a.old }
+    ensures kept_b { PartKept b.new b.old }
+    ensures few { twelves.new ≤ twelves.old + 6144 }
 {
-    let to_b = parts::give(
-        l, t.sizes, t.salt, g, p, e, b, 0, a, filter, xors, flows, unknowns, positions, marks,
-        keys, counts, flags, seen,
-    );
-    let from = p.keys;
-    let to_a = parts::give(
-        l,
-        s.sizes,
-        s.salt,
-        h,
-        parts::origin(),
-        p,
-        a,
-        from,
-        to_b.listed,
-        filter,
-        xors,
-        flows,
-        unknowns,
-        positions,
-        marks,
-        keys,
-        counts,
-        flags,
-        seen,
-    );
-    settle_both(
-        l,
-        s,
-        t,
-        h,
-        g,
-        p,
-        e,
-        to_a.listed,
-        to_b.listed,
-        twelves + to_b.twelves + to_a.twelves,
-        xors,
-        flows,
-        packets,
-        unknowns,
-        positions,
-        marks,
-        keys,
-        counts,
-        flags,
-        seen,
-    )
+    *twelves += b.take_from(a);
+    *twelves += a.take_from(b);
+    settle_both(a, b)
 }
 
 // The rounds, at most so many.
 fn all_rounds(
-    l: Layout,
-    s: Session,
-    t: Session,
-    h: Salted,
-    g: Salted,
-    p: Place,
-    e: Place,
-    a: usize,
-    b: usize,
+    a: &mut Part<'_>,
+    b: &mut Part<'_>,
     most: usize,
-    filter: &[u8],
-    xors: &mut [u8],
-    flows: &mut [u16],
-    packets: &mut [u32],
-    unknowns: &mut [u16],
-    positions: &mut [u16],
-    marks: &mut [u64],
-    keys: &mut [u8],
-    counts: &mut [u32],
-    flags: &mut [u8],
-    seen: &mut [u16],
-) -> Round
-    requires { Both l s t p e a b (areas (tab xors.old flows.old unknowns.old positions.old marks.old) packets.old
-        (records keys.old counts.old flags.old) seen.old) × (length filter.now ≡ e.filter) × (most ≤ 6145) × (h ≡ after_salt s.salt) × (g ≡ after_salt t.salt) }
-    ensures { left result (areas (tab xors.new flows.new unknowns.new positions.new marks.new) packets.new
-        (records keys.new counts.new flags.new) seen.new)
-        ≡ left_by (rounds most l (switch_of s) (between 0 p.filter filter.now) (switch_of t) (between p.filter e.filter filter.now) (pair_in p e a b 0 (areas (tab xors.old flows.old unknowns.old positions.old marks.old) packets.old
-        (records keys.old counts.old flags.old) seen.old))) }
+    twelves: &mut usize,
+) -> Result<(), Stopped>
+    requires { Meets a.old b.old × (twelves.old ≡ 0) × (most ≤ 6145) }
+    ensures value { ended result (pair_in a.new b.new twelves.new)
+        ≡ rounds most a.old.placing.shape.layout (switch_in a.old) a.old.filter.now (switch_in b.old) b.old.filter.now (pair_in a.old b.old twelves.old) }
+    ensures kept_a { PartKept a.new a.old }
+    ensures kept_b { PartKept b.new b.old }
+    ensures few { twelves.new ≤ 37754880 }
 {
-    let mut r = Round {
-        a,
-        b,
-        twelves: 0,
-        ending: Ending::Settled,
-    };
-    let mut rest = most;
-    while 0 < rest {
-        let next = one_round(
-            l, s, t, h, g, p, e, r.a, r.b, r.twelves, filter, xors, flows, packets, unknowns,
-            positions, marks, keys, counts, flags, seen,
-        );
-        if ending::is_over(r.a, r.b, next) {
-            return next;
+    for _ in 0..most {
+        let listed_a = a.listed;
+        let listed_b = b.listed;
+        one_round(a, b, twelves)?;
+        // a 14 has gone up by `?`
+        if ending::is_over(listed_a, listed_b, a.listed, b.listed, Ok(())) {
+            return Ok(());
         }
-        r = next;
-        rest -= 1;
     }
-    r
+    Ok(())
 }
 
-// Settles both, then goes through the rounds.
+// Settles both, then goes through the rounds. The answers 12 are counted, from none on.
 pub fn exchange_sides(
-    l: Layout,
-    s: Session,
-    t: Session,
-    h: Salted,
-    g: Salted,
-    p: Place,
-    e: Place,
-    filter: &[u8],
-    xors: &mut [u8],
-    flows: &mut [u16],
-    packets: &mut [u32],
-    unknowns: &mut [u16],
-    positions: &mut [u16],
-    marks: &mut [u64],
-    keys: &mut [u8],
-    counts: &mut [u32],
-    flags: &mut [u8],
-    seen: &mut [u16],
-) -> Round
-    requires { Both l s t p e s.listed t.listed (areas (tab xors.old flows.old unknowns.old positions.old marks.old) packets.old
-        (records keys.old counts.old flags.old) seen.old) × (length filter.now ≡ e.filter) × (h ≡ after_salt s.salt) × (g ≡ after_salt t.salt) }
-    ensures { left result (areas (tab xors.new flows.new unknowns.new positions.new marks.new) packets.new
-        (records keys.new counts.new flags.new) seen.new)
-        ≡ left_by (exchange_sides l (switch_of s) (between 0 p.filter filter.now) (switch_of t) (between p.filter e.filter filter.now)
-        (pair_in p e s.listed t.listed 0 (areas (tab xors.old flows.old unknowns.old positions.old marks.old) packets.old
-        (records keys.old counts.old flags.old) seen.old))) }
+    a: &mut Part<'_>,
+    b: &mut Part<'_>,
+    twelves: &mut usize,
+) -> Result<(), Stopped>
+    requires { Meets a.old b.old × (twelves.old ≡ 0) }
+    ensures value { ended result (pair_in a.new b.new twelves.new)
+        ≡ exchange_sides a.old.placing.shape.layout (switch_in a.old) a.old.filter.now (switch_in b.old) b.old.filter.now (pair_in a.old b.old twelves.old) }
+    ensures kept_a { PartKept a.new a.old }
+    ensures kept_b { PartKept b.new b.old }
+    ensures few { twelves.new ≤ 37754880 }
 {
-    let r = settle_both(
-        l, s, t, h, g, p, e, s.listed, t.listed, 0, xors, flows, packets, unknowns, positions,
-        marks, keys, counts, flags, seen,
-    );
-    let ending = r.ending;
-    let Ending::Settled = ending else {
-        return r;
-    };
-    let most = 2 * layout::table_cells(l, s.sizes) + 2 * layout::table_cells(l, t.sizes) + 1;
-    all_rounds(
-        l, s, t, h, g, p, e, r.a, r.b, most, filter, xors, flows, packets, unknowns, positions,
-        marks, keys, counts, flags, seen,
-    )
+    settle_both(a, b)?;
+    let most = 2 * a.placing.shape.table_cells() + 2 * b.placing.shape.table_cells() + 1;
+    all_rounds(a, b, most, twelves)
 }

@@ -32,19 +32,17 @@ header-put b kind z n salt slot h = sets-eq (header kind z n salt slot) b 0 h
 
 -- ---- a payload: bytes copied over the first part, the rest of 480 cleared
 pub payload-put : (bytes rest : List ℕ) {copied cleared : List ℕ} → length bytes ≤ 480 → 480 ≤ length rest → copied ≡ bytes
-    → cleared ≡ replicate (length (take (480 - length bytes) (drop (length bytes) (copied ++ drop (length bytes - 0) rest)))) 0
-    → take (length bytes) (copied ++ drop (length bytes - 0) rest)
-    ++ (cleared ++ drop (480 - length bytes) (drop (length bytes) (copied ++ drop (length bytes - 0) rest)))
+    → cleared ≡ replicate (length (take (480 - length bytes) (drop (length bytes) (copied ++ drop (length bytes) rest)))) 0
+    → take (length bytes) (copied ++ drop (length bytes) rest)
+    ++ (cleared ++ drop (480 - length bytes) (drop (length bytes) (copied ++ drop (length bytes) rest)))
     ≡ padded bytes ++ drop 480 rest
 unfolding padded
 payload-put bytes rest p q e f =
-    let n : length bytes - 0 ≡ length bytes = omega arith in
     let k : length (take (480 - length bytes) (drop (length bytes) rest)) ≡ 480 - length bytes = simp (length-take, length-drop) (omega arith) in
     let m : length bytes + (480 - length bytes) ≡ 480 = omega arith in
     rw (
       f,
       e,
-      n,
       take_at bytes (drop (length bytes) rest) (length bytes) refl,
       drop_at bytes (drop (length bytes) rest) (length bytes) refl,
       k,
@@ -105,28 +103,10 @@ module _ (kind : ℕ) (z : Sizes) (salt slot first width : ℕ) (bytes : List �
       let k : n * 512 + 512 - n * 512 ≡ 512 = omega arith in
       rw (f, w, k, e) (join-turn n 512 (block_of kind z salt slot first width bytes) s (length-blocks n))
 
-  pub length-turn : (n : ℕ) (s : List ℕ) → n * 512 ≤ length s
-      → length (join_upto n (block_of kind z salt slot first width bytes) ++ drop (n * 512) s) ≡ length s
-  length-turn n s h = rw (length-append, length-blocks n, length-drop) (omega arith)
-
   pub blocks-all : (n count : ℕ) (s : List ℕ) → n ≡ count → length s ≡ count * 512
       → join_upto n (block_of kind z salt slot first width bytes) ++ drop (n * 512) s ≡ join_upto count (block_of kind z salt slot first width bytes)
   blocks-all n count s e h =
       rw (e, drop_of_length-le s {i = count * 512} (omega arith)) (append-nil (join_upto count (block_of kind z salt slot first width bytes)))
-
--- ---- the image: what the first part and the rest came back with
-pub both-parts : (a t s : List ℕ) (n : ℕ) {a' t' : List ℕ} → length a ≡ n → a' ≡ a → t' ≡ t
-    → take n (a' ++ drop (n - 0) s) ++ (t' ++ drop (length (a' ++ drop (n - 0) s) - n) (drop n (a' ++ drop (n - 0) s))) ≡ a ++ t
-both-parts a t s n h e f =
-    let k : length (drop (n - 0) s) ≤ length (a ++ drop (n - 0) s) - n = rw length-append (omega arith) in
-    rw (e, f, take_at a (drop (n - 0) s) n h, drop_at a (drop (n - 0) s) n h, drop_of_length-le (drop (n - 0) s) k) (ap (λ x. a ++ x) (append-nil t))
-
-pub length_both : (a s : List ℕ) (n : ℕ) {a' : List ℕ} → length a ≡ n → n ≤ length s → a' ≡ a → length (a' ++ drop (n - 0) s) ≡ length s
-length_both a s n h q e = rw (e, length-append, length-drop) (omega arith)
-
-pub length_rest : (a s : List ℕ) (n m : ℕ) {a' : List ℕ} → length a ≡ n → length s ≡ n + m → a' ≡ a
-    → length (take (length (a' ++ drop (n - 0) s) - n) (drop n (a' ++ drop (n - 0) s))) ≡ m
-length_rest a s n m h q e = rw (length-take, length-drop, length_both a s n h (omega arith) e) (omega arith)
 
 -- ---- the lengths that sealing asks for
 pub rooms : (l : Layout) (z : Sizes) (filter cells image : ℕ) → seal_rooms l z filter cells image ≡ true

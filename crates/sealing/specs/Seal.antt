@@ -1,12 +1,12 @@
 -- Sealing: 01 'Blocks of 512 bytes' and its table, "3 also for sizes outside their range at .. writing, or, in writing, a nonzero zero byte".
-use Rattle.std.specs.Prelude.{◌≡◌, Bool, true, cond, not, ◌&&◌, List, ℕ, ◌*◌, eqb, length}
+use Rattle.std.specs.Prelude.{◌≡◌, Bool, true, cond, not, ◌&&◌, List, ℕ, ◌*◌, eqb, length, Result, Ok, Err}
 use Rattle.layout.specs.declared.Layout.{Layout}
 use Rattle.layout.specs.declared.Sizes.{Sizes}
 use Rattle.layout.specs.Sizes.{in_range, Ranged, table_cells, cell_bytes, filter_bytes, blocks}
 use Rattle.layout.specs.Numbers.{Returned, only}
 use Rattle.block.specs.Block.{image_of, zero_bytes}
-use Rattle.sealing.specs.declared.Sealed.{Sealed}
-use Rattle.sealing.specs.declared.Sealed.TheVariants.{Done, BadSizes, BadRoom, BadZero}
+use Rattle.sealing.specs.declared.SealError.{SealError}
+use Rattle.sealing.specs.declared.SealError.TheVariants.{BadSizes, BadRoom, BadZero}
 
 -- the lengths that filter, cells and image are lent in
 unfoldable pub seal_rooms : Layout → Sizes → ℕ → ℕ → ℕ → Bool
@@ -21,25 +21,29 @@ pub record Sealable (l : Layout) (z : Sizes) (filter cells : List ℕ) : Type 0 
 
 -- what sealing answers, and the image afterwards
 pub record Sealing : Type 0 where
-  pub answer : Sealed
+  pub answer : Result Unit SealError
   pub image : List ℕ
 
-abbrev pub sealing : Sealed → List ℕ → Sealing
+abbrev pub sealing : Result Unit SealError → List ℕ → Sealing
 sealing answer image = record { answer = answer; image = image }
 
 unfoldable pub seal_of : Layout → Sizes → ℕ → ℕ → List ℕ → List ℕ → List ℕ → Sealing
 seal_of l z salt slot filter cells image =
-    cond (not (in_range z)) (sealing BadSizes image)
-    (cond (not (seal_rooms l z (length filter) (length cells) (length image))) (sealing BadRoom image)
-    (cond (not (zero_bytes l (table_cells l z) cells)) (sealing BadZero image)
-    (sealing Done (image_of l z salt slot filter cells))))
+    cond (not (in_range z)) (sealing (Err BadSizes) image)
+    (cond (not (seal_rooms l z (length filter) (length cells) (length image))) (sealing (Err BadRoom) image)
+    (cond (not (zero_bytes l (table_cells l z) cells)) (sealing (Err BadZero) image)
+    (sealing (Ok tt) (image_of l z salt slot filter cells))))
+
+-- 01's number of each refusal
+abbrev pub error_number : SealError → ℕ
+error_number BadSizes = 3
+error_number BadRoom = 16
+error_number BadZero = 3
 
 -- 01's number and values for each answer; its block is 0 in all
-abbrev pub seal_returns : Sealed → Returned
-seal_returns Done = only 0
-seal_returns BadSizes = only 3
-seal_returns BadRoom = only 16
-seal_returns BadZero = only 3
+abbrev pub seal_returns : Result Unit SealError → Returned
+seal_returns (Ok x) = only 0
+seal_returns (Err e) = only (error_number e)
 
-abbrev pub seal_number : Sealed → ℕ
+abbrev pub seal_number : Result Unit SealError → ℕ
 seal_number a = (seal_returns a).number

@@ -3,13 +3,14 @@ use mathlib.Core.Path.{◌≡◌, sym, ap, ◌∙◌, subst}
 use mathlib.Core.Bool.{true, cond}
 use mathlib.Core.List.{List}
 use mathlib.Core.Logic.{inl, inr}
-use Prim.Native.Nat.{ℕ, ◌*◌, ◌<◌, ◌≤◌}
+use Prim.Native.Nat.{ℕ, ◌*◌, ◌≤◌}
 use native.Mathlib.Omega.{arith}
 use lib.ListN.{length, get_or, replicate}
 use Rattle.laws.specs.Upto.{number_upto}
 use Rattle.laws.proofs.Bools.{split}
 use Rattle.layout.specs.declared.Layout.{Layout}
 use Rattle.layout.specs.declared.Sizes.{Sizes}
+use Rattle.hash.specs.declared.Placing.{Placing}
 use Rattle.layout.specs.Sizes.{Lays, in_range, table_cells}
 use Rattle.layout.proofs.Ranges.{ranged, table-high}
 use Rattle.list.specs.Records.{Records, is_handed, handed_in}
@@ -18,7 +19,8 @@ use Rattle.table.specs.Table.{Tab}
 use Rattle.index.proofs.Index.{empty-zeros}
 use Rattle.found.specs.Seen.{Covers}
 use Rattle.peeling.specs.Peel.{Steady}
-use Rattle.peeling.specs.declared.Stop.{Stop}
+use Rattle.peeling.specs.declared.Damage.{Damage}
+use Rattle.std.specs.Prelude.{Result, Ok, Err}
 use Rattle.test8.specs.Given.{flag_set, seen_upto}
 use Rattle.test8.specs.Test8.{over_listed, is_session}
 use Rattle.test8.proofs.Answers as test8
@@ -28,19 +30,16 @@ use Rattle.room.specs.declared.Session.{Session}
 use Rattle.room.specs.Memory.{Memory, memory, Rooms, room_fits}
 use Rattle.room.specs.Test.{tested}
 use Rattle.room.proofs.Laws.{rooms-told, tested-sizes, tested-room, tested-rest}
-use Rattle.handing.specs.declared.Handed.{Handed}
+use Rattle.handing.specs.declared.HandError.{HandError}
 use Rattle.handing.specs.Hand as handing
 use Rattle.settling.specs.Settle as settling
 use Rattle.summary.specs.declared.Report.{Report}
-use Rattle.session.specs.Calls.{index_of, test_of, handing_to, hand_answer, hand_leaves, hand_over}
+use Rattle.session.specs.Calls.{index_of, test_of, told, handing_to, hand_answer, hand_leaves, hand_over}
 use Rattle.session.specs.Calls.{settling_to, settle_answer, settle_leaves, settle_of, report_in, report_on}
-use Rattle.session.specs.declared.Tested.{Tested}
-use Rattle.session.specs.declared.Tested.TheVariants as test
-use Rattle.session.specs.declared.HandOver.{HandOver}
-use Rattle.session.specs.declared.HandOver.TheVariants as over
-use Rattle.session.specs.declared.Settled.{Settled}
-use Rattle.session.specs.declared.Settled.TheVariants as settled
-use Rattle.session.specs.declared.Reported.TheVariants as reported
+use Rattle.session.specs.declared.SessionError.{SessionError}
+use Rattle.session.specs.declared.SessionError.TheVariants.{NotSession, BadRoom}
+use Rattle.session.specs.declared.HandOverError.TheVariants as over
+use Rattle.session.specs.declared.SettleError.TheVariants as settled
 
 -- a session that passes all tests
 pub record Passes (l : Layout) (s : Session) (m : Memory) : Type 0 where
@@ -50,19 +49,10 @@ pub record Passes (l : Layout) (s : Session) (m : Memory) : Type 0 where
 
 -- ---- which way the tests go
 -- what a call does, by the answer of the tests
-abbrev pub choose : {A : Type 0} → A → A → A → Tested → A
-choose notSession badRoom passed test.NotSession = notSession
-choose notSession badRoom passed test.BadRoom = badRoom
-choose notSession badRoom passed test.Passed = passed
-
--- a refusal is no pass
-abbrev refusal : Tested → ℕ
-refusal test.NotSession = 8
-refusal test.BadRoom = 16
-refusal test.Passed = 0
-
-pub not-passed : {A : Type 0} {r : Tested} → 0 < refusal r → r ≡ test.Passed → A
-not-passed h e = absurd (let q = ap refusal e in omega arith)
+abbrev pub choose : {A : Type 0} → A → A → A → Result Unit SessionError → A
+choose notSession badRoom passed (Err NotSession) = notSession
+choose notSession badRoom passed (Err BadRoom) = badRoom
+choose notSession badRoom passed (Ok x) = passed
 
 module _ (l : Layout) (s : Session) (m : Memory) where
   chosen : {A : Type 0} (x y w : A) → tested l s m x y w ≡ choose x y w (test_of l s m)
@@ -76,24 +66,24 @@ module _ (l : Layout) (s : Session) (m : Memory) where
   ]
 
   -- no other way leads to a pass
-  passes-all : test_of l s m ≡ test.Passed → Passes l s m
+  passes-all : test_of l s m ≡ Ok tt → Passes l s m
   passes-all e = elim (split (in_range s.sizes)) [
-    | inr p ↦ not-passed {r = test.NotSession} (omega arith) (sym (tested-sizes l s m test.NotSession test.BadRoom test.Passed p) ∙ e)
+    | inr p ↦ absurd (let q = sym (tested-sizes l s m _ _ _ p) ∙ e in cc)
     | inl p ↦ elim (split (room_fits l s.sizes m)) [
-      | inr q ↦ not-passed {r = test.BadRoom} (omega arith) (sym (tested-room l s m test.NotSession test.BadRoom test.Passed p q) ∙ e)
+      | inr q ↦ absurd (let r = sym (tested-room l s m _ _ _ p q) ∙ e in cc)
       | inl q ↦ elim (split (is_session l s.sizes s.salt s.listed m.table m.list)) [
-        | inr o ↦ not-passed {r = test.NotSession} (omega arith) (sym (tested-rest l s m test.NotSession test.BadRoom test.Passed p q o) ∙ e)
+        | inr o ↦ absurd (let r = sym (tested-rest l s m _ _ _ p q o) ∙ e in cc)
         | inl o ↦ record { sizes = p; room = q; rest = o }
       ]
     ]
   ]
 
-  module _ {r : Tested} (e : r ≡ test_of l s m) where
-    way : {A : Type 0} (x y w : A) → choose x y w r ≡ tested l s m x y w
+  module _ {B : Type 0} (r : Result B SessionError) (e : told r ≡ test_of l s m) where
+    way : {A : Type 0} (x y w : A) → choose x y w (told r) ≡ tested l s m x y w
     way x y w = ap (choose x y w) e ∙ sym (chosen x y w)
 
-    pub passes : r ≡ test.Passed → Passes l s m
-    passes q = passes-all (sym e ∙ q)
+    pub passes : {x : B} → r ≡ Ok x → Passes l s m
+    passes q = passes-all (sym e ∙ ap told q)
 
 -- the index, where not too many flows are listed
 pub seen_all : (l : Layout) (z : Sizes) (salt n : ℕ) (t : Tab) (rs : Records) (seen : List ℕ) {s : List ℕ} → is_session l z salt n t rs ≡ true
@@ -136,62 +126,68 @@ module _ (l : Layout) (s : Session) (m : Memory) (lays : Lays l) (p : Passes l s
   unfolding handed_in is_handed
   passes-hands w key k h e = record { steady = passes-steady w e; filter-fits = rooms.filter-fits; key_fits = k; handed-is = h }
 
+-- the tests of the room of a call, whose slices are these
+pub tests-of : (l : Layout) (s : Session) {A : Type 0} (r : Result A SessionError) {seen m : Memory} → told r ≡ test_of l s seen → seen ≡ m
+    → told r ≡ test_of l s m
+tests-of l s r e f = e ∙ ap (test_of l s) f
+
+-- the index of the keys that are listed in that room
+pub index-is : (l : Layout) (s : Session) {i : List ℕ} {seen m : Memory} → i ≡ index_of l s seen → seen ≡ m → i ≡ index_of l s m
+index-is l s e f = e ∙ ap (index_of l s) f
+
+-- a placing of its layout, sizes and salt
+abbrev pub Places : Layout → Session → Placing → Type 0
+Places l s p = (p.shape.layout ≡ l) × (p.shape.sizes ≡ s.sizes) × (p.salt ≡ s.salt)
+
 -- ---- each call's answer
-module _ (l : Layout) (s : Session) (m : Memory) {r : Tested} (e : r ≡ test_of l s m) where
+module _ (l : Layout) (s : Session) (m : Memory) {B : Type 0} (r : Result B SessionError) (e : told r ≡ test_of l s m) where
   -- hand-over
   module _ (key : List ℕ) where
-    pub hand-is : choose (handing_to over.NotSession m) (handing_to over.BadRoom m)
-        (hand_leaves s m (handing.hand_of l s.sizes s.salt s.listed key m.filter m.table m.list (index_of l s m))) r
+    pub hand-is : choose (handing_to (Err (over.Session NotSession)) m) (handing_to (Err (over.Session BadRoom)) m)
+        (hand_leaves s m (handing.hand_of l s.sizes s.salt s.listed key m.filter m.table m.list (index_of l s m))) (told r)
         ≡ hand_over l s key m
     unfolding hand_over
-    hand-is = way l s m e _ _ _
+    hand-is = way l s m r e _ _ _
 
-    pub hand-not : r ≡ test.NotSession → handing_to over.NotSession m ≡ hand_over l s key m
-    hand-not q = (rw q at hand-is)
+    pub hand-refused : (x : SessionError) → r ≡ Err x → handing_to (Err (over.Session x)) m ≡ hand_over l s key m
+    hand-refused NotSession q = rw q at hand-is
+    hand-refused BadRoom q = rw q at hand-is
 
-    pub hand-room : r ≡ test.BadRoom → handing_to over.BadRoom m ≡ hand_over l s key m
-    hand-room q = (rw q at hand-is)
-
-    pub hand-passed : {a : Handed} {t : Tab} {rs : Records} {seen seen' : List ℕ} {b : HandOver} → r ≡ test.Passed → seen ≡ index_of l s m
+    pub hand-passed : {x : B} {a : Result Unit HandError} {t : Tab} {rs : Records} {seen seen' : List ℕ} → r ≡ Ok x
+        → seen ≡ index_of l s m
         → handing.handing a t rs seen' ≡ handing.hand_of l s.sizes s.salt s.listed key m.filter m.table m.list seen
-        → b ≡ hand_answer s.listed a → handing_to b (memory m.filter t m.packets rs) ≡ hand_over l s key m
-    hand-passed {t = t} {rs = rs} q u g h =
-        ap (λ x. handing_to x (memory m.filter t m.packets rs)) h
-        ∙ ap (hand_leaves s m) (g ∙ ap (handing.hand_of l s.sizes s.salt s.listed key m.filter m.table m.list) u)
+        → handing_to (hand_answer s.listed a) (memory m.filter t m.packets rs) ≡ hand_over l s key m
+    hand-passed q u g =
+        ap (hand_leaves s m) (g ∙ ap (handing.hand_of l s.sizes s.salt s.listed key m.filter m.table m.list) u)
         ∙ (rw q at hand-is)
 
   -- settling
-  pub settle_is : choose (settling_to settled.NotSession m) (settling_to settled.BadRoom m)
-      (settle_leaves m (settling.settle_of l s.sizes s.salt s.listed m.table m.packets m.list (index_of l s m))) r
+  pub settle_is : choose (settling_to (Err (settled.Session NotSession)) m) (settling_to (Err (settled.Session BadRoom)) m)
+      (settle_leaves m (settling.settle_of l s.sizes s.salt s.listed m.table m.packets m.list (index_of l s m))) (told r)
       ≡ settle_of l s m
   unfolding settle_of
-  settle_is = way l s m e _ _ _
+  settle_is = way l s m r e _ _ _
 
-  pub settle-not : r ≡ test.NotSession → settling_to settled.NotSession m ≡ settle_of l s m
-  settle-not q = (rw q at settle_is)
+  pub settle-refused : (x : SessionError) → r ≡ Err x → settling_to (Err (settled.Session x)) m ≡ settle_of l s m
+  settle-refused NotSession q = rw q at settle_is
+  settle-refused BadRoom q = rw q at settle_is
 
-  pub settle-room : r ≡ test.BadRoom → settling_to settled.BadRoom m ≡ settle_of l s m
-  settle-room q = (rw q at settle_is)
-
-  pub settle-passed : {a : Stop} {t : Tab} {packets : List ℕ} {rs : Records} {seen seen' : List ℕ} {b : Settled} → r ≡ test.Passed
+  pub settle-passed : {x : B} {a : Result ℕ Damage} {t : Tab} {packets : List ℕ} {rs : Records} {seen seen' : List ℕ} → r ≡ Ok x
       → seen ≡ index_of l s m
       → settling.settled a t packets rs seen' ≡ settling.settle_of l s.sizes s.salt s.listed m.table m.packets m.list seen
-      → b ≡ settle_answer a → settling_to b (memory m.filter t packets rs) ≡ settle_of l s m
-  settle-passed {t = t} {packets = packets} {rs = rs} q u g h =
-      ap (λ x. settling_to x (memory m.filter t packets rs)) h
-      ∙ ap (settle_leaves m) (g ∙ ap (settling.settle_of l s.sizes s.salt s.listed m.table m.packets m.list) u)
+      → settling_to (settle_answer a) (memory m.filter t packets rs) ≡ settle_of l s m
+  settle-passed q u g =
+      ap (settle_leaves m) (g ∙ ap (settling.settle_of l s.sizes s.salt s.listed m.table m.packets m.list) u)
       ∙ (rw q at settle_is)
 
   -- the report
-  report-is : choose reported.NotSession reported.BadRoom (reported.Told (report_in s.listed m)) r ≡ report_on l s m
+  report-is : choose (Err NotSession) (Err BadRoom) (Ok (report_in s.listed m)) (told r) ≡ report_on l s m
   unfolding report_on
-  report-is = way l s m e _ _ _
+  report-is = way l s m r e _ _ _
 
-  pub report-not : r ≡ test.NotSession → reported.NotSession ≡ report_on l s m
-  report-not q = (rw q at report-is)
+  pub report-refused : (x : SessionError) → r ≡ Err x → Err x ≡ report_on l s m
+  report-refused NotSession q = rw q at report-is
+  report-refused BadRoom q = rw q at report-is
 
-  pub report-room : r ≡ test.BadRoom → reported.BadRoom ≡ report_on l s m
-  report-room q = (rw q at report-is)
-
-  pub report-passed : {x : Report} → r ≡ test.Passed → x ≡ report_in s.listed m → reported.Told x ≡ report_on l s m
-  report-passed q h = ap reported.Told h ∙ (rw q at report-is)
+  pub report-passed : {y : B} {x : Report} → r ≡ Ok y → x ≡ report_in s.listed m → Ok x ≡ report_on l s m
+  report-passed q h = ap Ok h ∙ (rw q at report-is)

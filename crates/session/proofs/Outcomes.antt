@@ -21,6 +21,12 @@ use Rattle.session.proofs.report.Kinds as report-kinds
 use Rattle.session.proofs.report.Reads as report
 use Rattle.session.proofs.report_in.Kinds as report-in-kinds
 use Rattle.session.proofs.report_in.Reads as report-in
+use Rattle.session.proofs.SessionError.number.Kinds as session-number-kinds
+use Rattle.session.proofs.SessionError.number.Reads as session-number
+use Rattle.session.proofs.HandOverError.number.Kinds as hand-over-error-number-kinds
+use Rattle.session.proofs.HandOverError.number.Reads as hand-over-error-number
+use Rattle.session.proofs.SettleError.number.Kinds as settle-error-number-kinds
+use Rattle.session.proofs.SettleError.number.Reads as settle-error-number
 
 pub report-determined : Determined _ report-kinds.ps report-kinds.r report.Asked report.Learnt
 report-determined κs a p z z' ws ws' e e' = (e ∙ sym e', refl)
@@ -63,3 +69,12 @@ settle-determined κs a p z z' ws ws' e e' =
 pub settle-in-determined : Determined _ settle-in-kinds.ps settle-in-kinds.r settle-in.Asked settle-in.Learnt
 settle-in-determined κs a p z z' ws ws' e e' =
     let f = e ∙ sym e' in (ap (λ (x : Settling). x.answer) f, both refl (both refl (both refl (ap (λ (x : Settling). room_left x.room) f))))
+
+pub session-number-determined : Determined _ session-number-kinds.ps session-number-kinds.r session-number.Asked session-number.Learnt
+session-number-determined κs a p z z' ws ws' e e' = (e ∙ sym e', refl)
+
+pub hand-over-error-number-determined : Determined _ hand-over-error-number-kinds.ps hand-over-error-number-kinds.r hand-over-error-number.Asked hand-over-error-number.Learnt
+hand-over-error-number-determined κs a p z z' ws ws' e e' = (e ∙ sym e', refl)
+
+pub settle-error-number-determined : Determined _ settle-error-number-kinds.ps settle-error-number-kinds.r settle-error-number.Asked settle-error-number.Learnt
+settle-error-number-determined κs a p z z' ws ws' e e' = (e ∙ sym e', refl)

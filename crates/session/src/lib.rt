@@ -1,64 +1,121 @@
 // The calls on a single-switch session of IPv4 keys, over lent slices: open, hand-over, settle, report. Each answers for every input.
 // It rests on opening, handing, settling and summary for what the calls do, and on room and test8 for what they refuse.
+// The calls take ten slices and no value of them: `elderflute_open` and the calls of C after it lend them one by one, some to be read alone.
 #![tactic(auto)]
 
-ghost use Rattle.std.specs.Prelude.{◌≡◌, ◌≤◌, length};
+ghost use Rattle.std.specs.Prelude.{◌≡◌, ◌≤◌, length, IfOk, OnOk};
 ghost use Rattle.layout.specs.Sizes.{Lays, ipv4_layout};
-ghost use Rattle.hash.specs.Salted.{after_salt};
 ghost use Rattle.list.specs.Records.{records};
 ghost use Rattle.packet.specs.Key.{key_bytes};
 ghost use Rattle.table.specs.Table.{tab};
 ghost use Rattle.room.specs.Memory.{memory};
+ghost use Rattle.room.specs.Seen.{memory_seen};
 ghost use Rattle.opening.specs.Open.{opening, open_of};
 ghost use Rattle.index.specs.Index.{Empty};
 ghost use Rattle.test8.specs.Given.{seen_upto};
-ghost use Rattle.session.specs.declared.Tested.TheVariants as tests;
-ghost use Rattle.session.specs.Calls.{test_of, handing_to, hand_answer, hand_over, settling_to, settle_answer, settle_of, report_on};
+ghost use Rattle.session.specs.Errors.{session_number, hand_over_error_number, settle_error_number};
+ghost use Rattle.session.specs.declared.HandOverError.TheVariants as over;
+ghost use Rattle.session.specs.declared.SettleError.TheVariants as settling;
+ghost use Rattle.session.specs.Calls.{test_of, told, handing_to, hand_over, settling_to, settle_of, report_on};
 
-use handing::Handed;
-use hash::Salted;
-use layout::Layout;
-use opening::Opened;
+use handing::HandError;
+use hash::Placing;
+use layout::{Layout, Shape};
+use list::Found;
+use opening::OpenError;
 use packet::Key;
-use peeling::Stop;
-use room::Session;
+use peeling::Damage;
+use room::{Room, Session};
 use summary::Report;
+use table::Table;
 
-// What the tests of every call answer.
+// Why a call on a session does not begin: what is lent is no session, or it has not the right length.
 #[derive(Clone, Copy)]
-enum Tested {
-    Passed,
+pub enum SessionError {
     NotSession,
     BadRoom,
 }
 
-// What a hand-over answers: how many flows are then listed, or why the key was not taken out.
-#[derive(Clone, Copy)]
-pub enum HandOver {
-    Done { listed: usize },
-    NotSession,
-    NotInFilter,
-    Listed,
-    EmptyCell,
-    TooMany,
-    BadRoom,
+impl SessionError {
+    // 01's number.
+    pub fn number(self) -> u32
+        ensures { result ≡ session_number self }
+    {
+        match self {
+            SessionError::NotSession => 8,
+            SessionError::BadRoom => 16,
+        }
+    }
 }
 
-// What settling answers: how many flows are then listed, and where it stopped; or why it did not begin.
+// Why a key is not taken out of a session.
 #[derive(Clone, Copy)]
-pub enum Settled {
-    Done { listed: usize },
-    Damaged { listed: usize, cell: usize },
-    NotSession,
-    BadRoom,
+pub enum HandOverError {
+    Session(SessionError),
+    Hand(HandError),
 }
 
-// What the report call answers.
+impl From<SessionError> for HandOverError {
+    ghost from_gives = { λ e r. r ≡ over.Session e };
+
+    fn from(e: SessionError) -> HandOverError {
+        HandOverError::Session(e)
+    }
+}
+
+impl From<HandError> for HandOverError {
+    ghost from_gives = { λ e r. r ≡ over.Hand e };
+
+    fn from(e: HandError) -> HandOverError {
+        HandOverError::Hand(e)
+    }
+}
+
+impl HandOverError {
+    // 01's number.
+    pub fn number(self) -> u32
+        ensures { result ≡ hand_over_error_number self }
+    {
+        match self {
+            HandOverError::Session(e) => e.number(),
+            HandOverError::Hand(e) => e.number(),
+        }
+    }
+}
+
+// Why settling did not begin, or where it stopped.
 #[derive(Clone, Copy)]
-pub enum Reported {
-    Told(Report),
-    NotSession,
-    BadRoom,
+pub enum SettleError {
+    Session(SessionError),
+    Damaged(Damage),
+}
+
+impl From<SessionError> for SettleError {
+    ghost from_gives = { λ e r. r ≡ settling.Session e };
+
+    fn from(e: SessionError) -> SettleError {
+        SettleError::Session(e)
+    }
+}
+
+impl From<Damage> for SettleError {
+    ghost from_gives = { λ e r. r ≡ settling.Damaged e };
+
+    fn from(e: Damage) -> SettleError {
+        SettleError::Damaged(e)
+    }
+}
+
+impl SettleError {
+    // 01's number.
+    pub fn number(self) -> u32
+        ensures { result ≡ settle_error_number self }
+    {
+        match self {
+            SettleError::Session(e) => e.number(),
+            SettleError::Damaged(_) => 14,
+        }
+    }
 }
 
 // Opens an image that is wanted of a slot.
@@ -75,7 +132,7 @@ pub fn open(
     keys: &mut [u8],
     counts: &mut [u32],
     flags: &mut [u8],
-) -> Opened
+) -> Result<Session, OpenError>
     ensures { opening result (memory filter.new
         (tab xors.new flows.new unknowns.new positions.new marks.new)
         packets.new (records keys.new counts.new flags.new))
@@ -100,78 +157,40 @@ pub fn open(
     )
 }
 
-// The tests of every call on a session. Where all are passed, the index has got each listed key.
-fn test(
-    l: Layout,
-    s: Session,
-    h: Salted,
-    filter: &[u8],
-    xors: &[u8],
-    flows: &[u16],
-    packets: &[u32],
-    unknowns: &[u16],
-    positions: &[u16],
-    marks: &[u64],
-    keys: &[u8],
-    counts: &[u32],
-    flags: &[u8],
-    seen: &mut [u16],
-) -> Tested
-    requires { Lays l × Empty seen.old × (h ≡ after_salt s.salt) }
-    ensures { (result ≡ test_of l s (memory filter.now
-        (tab xors.now flows.now unknowns.now positions.now marks.now) packets.now
-        (records keys.now counts.now flags.now)))
-        × (result ≡ tests.Passed
-        → seen.new ≡ seen_upto l s.sizes s.salt s.listed keys.now seen.old) }
+// The tests of every call on a session: what places its flows, where all are passed; the index then has got each listed key.
+fn tested(l: Layout, s: Session, room: Room<'_>, seen: &mut [u16]) -> Result<Placing, SessionError>
+    requires { Lays l × Empty seen.old }
+    ensures test { told result ≡ test_of l s (memory_seen room.entry) }
+    ensures placing { IfOk result (λ p. (p.shape.layout ≡ l) × (p.shape.sizes ≡ s.sizes) × (p.salt ≡ s.salt)) }
+    ensures seen { OnOk result (seen.new ≡ seen_upto l s.sizes s.salt s.listed room.entry.list.keys.now seen.old) }
 {
-    let z = s.sizes;
-    if !layout::in_range(z) {
-        return Tested::NotSession;
+    let shape = Shape::new(l, s.sizes).ok_or(SessionError::NotSession)?;
+    if !room::fits(shape, room) {
+        return Err(SessionError::BadRoom);
     }
-    if !room::fits(
-        l, z, filter, xors, flows, packets, unknowns, positions, marks, keys, counts, flags,
-    ) {
-        return Tested::BadRoom;
+    let p = Placing::new(shape, s.salt);
+    if !test8::is_session_seen(p, s.listed, room.table, room.list, seen) {
+        return Err(SessionError::NotSession);
     }
-    if !test8::is_session_seen(
-        l, z, s.salt, h, s.listed, xors, flows, unknowns, positions, marks, keys, counts, flags,
-        seen,
-    ) {
-        return Tested::NotSession;
-    }
-    Tested::Passed
-}
-
-// The answer of a hand-over to a session in which n flows were listed.
-fn hand_answer(n: usize, a: Handed) -> HandOver
-    requires { n ≤ 3072 }
-    ensures { result ≡ hand_answer n a }
-{
-    match a {
-        Handed::Taken => HandOver::Done { listed: n + 1 },
-        Handed::NotInFilter => HandOver::NotInFilter,
-        Handed::Listed => HandOver::Listed,
-        Handed::EmptyCell => HandOver::EmptyCell,
-        Handed::TooMany => HandOver::TooMany,
-    }
+    Ok(p)
 }
 
 // Hands a key over to a session of any layout.
-pub fn hand_over_in(
+pub fn hand_over_in<'a>(
     l: Layout,
     s: Session,
     key: &[u8],
     filter: &[u8],
-    xors: &mut [u8],
-    flows: &mut [u16],
+    xors: &'a mut [u8],
+    flows: &'a mut [u16],
     packets: &[u32],
-    unknowns: &mut [u16],
-    positions: &mut [u16],
-    marks: &mut [u64],
-    keys: &mut [u8],
-    counts: &mut [u32],
-    flags: &mut [u8],
-) -> HandOver
+    unknowns: &'a mut [u16],
+    positions: &'a mut [u16],
+    marks: &'a mut [u64],
+    keys: &'a mut [u8],
+    counts: &'a mut [u32],
+    flags: &'a mut [u8],
+) -> Result<usize, HandOverError>
     requires { Lays l × (length key.now ≡ l.key) }
     ensures { handing_to result (memory filter.now
         (tab xors.new flows.new unknowns.new positions.new marks.new)
@@ -181,35 +200,27 @@ pub fn hand_over_in(
         packets.now (records keys.old counts.old flags.old)) }
 {
     let mut seen = [0u16; 11264];
-    let h = hash::after_salt(s.salt);
-    match test(
-        l, s, h, filter, xors, flows, packets, unknowns, positions, marks, keys, counts, flags,
-        &mut seen,
-    ) {
-        Tested::NotSession => return HandOver::NotSession,
-        Tested::BadRoom => return HandOver::BadRoom,
-        Tested::Passed => (),
-    }
-    let a = handing::hand(
-        l,
-        s.sizes,
-        s.salt,
-        h,
-        s.listed,
-        test8::flagged_in(s.listed, test8::HANDED, flags),
-        key,
-        filter,
+    let room = Room::new(
+        filter, xors, flows, packets, unknowns, positions, marks, keys, counts, flags,
+    );
+    let p = tested(l, s, room, &mut seen)?;
+    let handed = test8::flagged_in(s.listed, test8::HANDED, flags);
+    let mut table = Table {
         xors,
         flows,
         unknowns,
         positions,
         marks,
+    };
+    let mut list = Found {
         keys,
         counts,
         flags,
-        &mut seen,
-    );
-    hand_answer(s.listed, a)
+    };
+    handing::hand(
+        p, s.listed, handed, key, filter, &mut table, &mut list, &mut seen,
+    )?;
+    Ok(s.listed + 1)
 }
 
 // Hands a key over.
@@ -226,7 +237,7 @@ pub fn hand_over(
     keys: &mut [u8],
     counts: &mut [u32],
     flags: &mut [u8],
-) -> HandOver
+) -> Result<usize, HandOverError>
     ensures { handing_to result (memory filter.now
         (tab xors.new flows.new unknowns.new positions.new marks.new)
         packets.now (records keys.new counts.new flags.new))
@@ -234,7 +245,7 @@ pub fn hand_over(
         (tab xors.old flows.old unknowns.old positions.old marks.old)
         packets.now (records keys.old counts.old flags.old)) }
 {
-    let bytes = packet::key_bytes(key);
+    let bytes = <[u8; 13]>::from(key);
     hand_over_in(
         layout::ipv4(),
         s,
@@ -252,31 +263,21 @@ pub fn hand_over(
     )
 }
 
-// The answer of settling.
-fn settle_answer(e: Stop) -> Settled
-    ensures { result ≡ settle_answer e }
-{
-    match e {
-        Stop::Done { listed } => Settled::Done { listed },
-        Stop::Damaged { listed, cell } => Settled::Damaged { listed, cell },
-    }
-}
-
 // Settles a session of any layout.
-pub fn settle_in(
+pub fn settle_in<'a>(
     l: Layout,
     s: Session,
     filter: &[u8],
-    xors: &mut [u8],
-    flows: &mut [u16],
-    packets: &mut [u32],
-    unknowns: &mut [u16],
-    positions: &mut [u16],
-    marks: &mut [u64],
-    keys: &mut [u8],
-    counts: &mut [u32],
-    flags: &mut [u8],
-) -> Settled
+    xors: &'a mut [u8],
+    flows: &'a mut [u16],
+    packets: &'a mut [u32],
+    unknowns: &'a mut [u16],
+    positions: &'a mut [u16],
+    marks: &'a mut [u64],
+    keys: &'a mut [u8],
+    counts: &'a mut [u32],
+    flags: &'a mut [u8],
+) -> Result<usize, SettleError>
     requires { Lays l }
     ensures { settling_to result (memory filter.now
         (tab xors.new flows.new unknowns.new positions.new marks.new)
@@ -286,20 +287,24 @@ pub fn settle_in(
         packets.old (records keys.old counts.old flags.old)) }
 {
     let mut seen = [0u16; 11264];
-    let h = hash::after_salt(s.salt);
-    match test(
-        l, s, h, filter, xors, flows, packets, unknowns, positions, marks, keys, counts, flags,
-        &mut seen,
-    ) {
-        Tested::NotSession => return Settled::NotSession,
-        Tested::BadRoom => return Settled::BadRoom,
-        Tested::Passed => (),
-    }
-    let e = settling::settle_all(
-        l, s.sizes, s.salt, h, s.listed, xors, flows, packets, unknowns, positions, marks, keys,
-        counts, flags, &mut seen,
+    let room = Room::new(
+        filter, xors, flows, packets, unknowns, positions, marks, keys, counts, flags,
     );
-    settle_answer(e)
+    let p = tested(l, s, room, &mut seen)?;
+    let mut table = Table {
+        xors,
+        flows,
+        unknowns,
+        positions,
+        marks,
+    };
+    let mut list = Found {
+        keys,
+        counts,
+        flags,
+    };
+    let listed = settling::settle_all(p, s.listed, &mut table, packets, &mut list, &mut seen)?;
+    Ok(listed)
 }
 
 // Settles.
@@ -315,7 +320,7 @@ pub fn settle(
     keys: &mut [u8],
     counts: &mut [u32],
     flags: &mut [u8],
-) -> Settled
+) -> Result<usize, SettleError>
     ensures { settling_to result (memory filter.now
         (tab xors.new flows.new unknowns.new positions.new marks.new)
         packets.new (records keys.new counts.new flags.new))
@@ -353,23 +358,18 @@ pub fn report_in(
     keys: &[u8],
     counts: &[u32],
     flags: &[u8],
-) -> Reported
+) -> Result<Report, SessionError>
     requires { Lays l }
     ensures { result ≡ report_on l s (memory filter.now
         (tab xors.now flows.now unknowns.now positions.now marks.now)
         packets.now (records keys.now counts.now flags.now)) }
 {
     let mut seen = [0u16; 11264];
-    let h = hash::after_salt(s.salt);
-    match test(
-        l, s, h, filter, xors, flows, packets, unknowns, positions, marks, keys, counts, flags,
-        &mut seen,
-    ) {
-        Tested::NotSession => return Reported::NotSession,
-        Tested::BadRoom => return Reported::BadRoom,
-        Tested::Passed => (),
-    }
-    Reported::Told(summary::report_of(s.listed, xors, flows, packets, flags))
+    let room = Room::new(
+        filter, xors, flows, packets, unknowns, positions, marks, keys, counts, flags,
+    );
+    tested(l, s, room, &mut seen)?;
+    Ok(summary::report_of(s.listed, xors, flows, packets, flags))
 }
 
 // Reports.
@@ -385,7 +385,7 @@ pub fn report(
     keys: &[u8],
     counts: &[u32],
     flags: &[u8],
-) -> Reported
+) -> Result<Report, SessionError>
     ensures { result ≡ report_on ipv4_layout s (memory filter.now
         (tab xors.now flows.now unknowns.now positions.now marks.now)
         packets.now (records keys.now counts.now flags.now)) }

@@ -3,6 +3,8 @@ use mathlib.Core.Path.{◌≡◌, refl, sym, ap, subst, ◌∙◌}
 use mathlib.Core.List.{List}
 use Prim.Native.Nat.{ℕ}
 use lib.ListN.{length, replicate}
+use Rattle.std.specs.Prelude.{Ok, Err}
+use Rattle.peeling.specs.declared.Damage.{Damage}
 use Rattle.layout.specs.declared.Layout.{Layout}
 use Rattle.layout.specs.declared.Sizes.{Sizes}
 use Rattle.layout.specs.Sizes.{table_cells}
@@ -11,23 +13,12 @@ use Rattle.list.specs.Records.{Records}
 use Rattle.found.specs.Seen.{Covers}
 use Rattle.table.specs.Table.{Tab, tab}
 use Rattle.table.proofs.Bounds.{bounded-counted}
-use Rattle.peeling.specs.Peel.{Fits, Steady, Ended, ended, peels_of, listed_at}
-use Rattle.peeling.specs.declared.Stop.{Stop}
-use Rattle.peeling.specs.declared.Stop.TheVariants.{Done, Damaged}
+use Rattle.peeling.specs.Peel.{Fits, Steady, Stop, Ended, ended, peels_of, listed_at}
 use Rattle.peeling.proofs.Loop.{ended-keeps}
 use Rattle.counting.specs.Book.{book}
 use Rattle.counting.specs.Count as counts
-use Rattle.counting.specs.declared.Stop as counting
-use Rattle.counting.specs.declared.Stop.TheVariants as count
 use Rattle.counting.proofs.Loop as counting-last
 use Rattle.settling.specs.Settle.{Settled, settled, stop_after, after_counts, then_counts, settle_of}
-
--- a 14 while peeling ends it
-others : (l : Layout) (z : Sizes) (salt : ℕ) (packets : List ℕ) (t : Tab) (rs : Records) (seen : List ℕ) (r : Stop) → ((n : ℕ) → r ≡ Done n → ⊥)
-    → settled r t packets rs seen ≡ then_counts l z salt packets t rs seen r
-unfolding then_counts
-others l z salt packets t rs seen (Done n) h = absurd (h n refl)
-others l z salt packets t rs seen (Damaged n c) h = refl
 
 -- what fits for peeling fits for counting
 counts-fits : (l : Layout) (z : Sizes) (salt n : ℕ) (t : Tab) (packets : List ℕ) (rs : Records) (seen : List ℕ) → Fits l z salt n t rs seen
@@ -55,11 +46,13 @@ module _ (l : Layout) (z : Sizes) (salt n : ℕ) (t : Tab) (packets : List ℕ) 
   unfolding settle_of
   then_is = ap (λ (x : Ended). then_counts l z salt packets x.table x.list x.seen x.answer) p
 
-  pub settle-stopped : ((m : ℕ) → r ≡ Done m → ⊥) → settled r t' packets rs' seen' ≡ settle_of l z salt n t packets rs seen
-  settle-stopped h = others l z salt packets t' rs' seen' r h ∙ then_is
+  -- a 14 while peeling ends it
+  pub settle-stopped : {d : Damage} → r ≡ Err d → settled (Err d) t' packets rs' seen' ≡ settle_of l z salt n t packets rs seen
+  unfolding then_counts
+  settle-stopped e = (rw e at then_is)
 
-  module _ {m : ℕ} (e : r ≡ Done m) where
-    pub settle-counted : {a : counting.Stop} {q : Stop} {packets' unknowns positions : List ℕ} {rs'' : Records}
+  module _ {m : ℕ} (e : r ≡ Ok m) where
+    pub settle-counted : {a : counts.Stop} {q : Stop} {packets' unknowns positions : List ℕ} {rs'' : Records}
         → counts.ended a packets' unknowns positions rs'' ≡ counts.counts_of l z salt m t'.flows packets t'.unknowns t'.positions rs'
         → q ≡ stop_after m a
         → settled q (tab t'.xors t'.flows unknowns positions t'.marks) packets' rs'' seen' ≡ settle_of l z salt n t packets rs seen
@@ -79,9 +72,9 @@ pub record Lasts (l : Layout) (z : Sizes) (salt : ℕ) (s : Settled) : Type 0 wh
   pub steady : Steady l z salt (listed_at s.answer) s.table s.list s.seen
   pub packets-fit : length s.packets ≡ table_cells l z
 
-listed-after : (n : ℕ) (a : counting.Stop) → listed_at (stop_after n a) ≡ n
-listed-after n count.Done = refl
-listed-after n (count.Damaged c) = refl
+listed-after : (n : ℕ) (a : counts.Stop) → listed_at (stop_after n a) ≡ n
+listed-after n (Ok u) = refl
+listed-after n (Err c) = refl
 
 module _ (l : Layout) (z : Sizes) (salt : ℕ) where
   after_last : (n : ℕ) (t : Tab) (seen : List ℕ) (rs : Records) → Steady l z salt n t rs seen → (e : counts.Ended) → counting-last.Lasts l z rs e
@@ -111,9 +104,9 @@ module _ (l : Layout) (z : Sizes) (salt : ℕ) where
   then-last : (r : Stop) (t : Tab) (packets : List ℕ) (rs : Records) (seen : List ℕ) → Steady l z salt (listed_at r) t rs seen
       → length packets ≡ table_cells l z → Lasts l z salt (then_counts l z salt packets t rs seen r)
   unfolding then_counts
-  then-last (Done n) t packets rs seen k h = after_last n t seen rs k (counts.counts_of l z salt n t.flows packets t.unknowns t.positions rs)
+  then-last (Ok n) t packets rs seen k h = after_last n t seen rs k (counts.counts_of l z salt n t.flows packets t.unknowns t.positions rs)
       (counting-last.counts-last l z salt n t.flows packets t.unknowns t.positions rs (counts-fits l z salt n t packets rs seen k.fits h))
-  then-last (Damaged n c) t packets rs seen k h = record { steady = k; packets-fit = h }
+  then-last (Err d) t packets rs seen k h = record { steady = k; packets-fit = h }
 
   pub settle-lasts : (n : ℕ) (t : Tab) (packets : List ℕ) (rs : Records) (seen : List ℕ) → Steady l z salt n t rs seen → length packets ≡ table_cells l z
       → Lasts l z salt (settle_of l z salt n t packets rs seen)

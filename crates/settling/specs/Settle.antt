@@ -1,14 +1,10 @@
 -- Settling: 01 'A session', "while a cell is marked, take out .. Then, while a cell is ready, ..".
-use Rattle.std.specs.Prelude.{List, ℕ}
+use Rattle.std.specs.Prelude.{List, ℕ, Ok, Err}
 use Rattle.layout.specs.declared.Layout.{Layout}
 use Rattle.layout.specs.declared.Sizes.{Sizes}
 use Rattle.list.specs.Records.{Records}
 use Rattle.table.specs.Table.{Tab, tab}
-use Rattle.peeling.specs.Peel.{peels_of}
-use Rattle.peeling.specs.declared.Stop.{Stop}
-use Rattle.peeling.specs.declared.Stop.TheVariants.{Done, Damaged}
-use Rattle.counting.specs.declared.Stop as counting
-use Rattle.counting.specs.declared.Stop.TheVariants as count
+use Rattle.peeling.specs.Peel.{Stop, damage, peels_of}
 use Rattle.counting.specs.Count.{counts_of}
 use Rattle.counting.specs.Count as counts
 
@@ -23,9 +19,9 @@ abbrev pub settled : Stop → Tab → List ℕ → Records → List ℕ → Sett
 settled answer t packets rs seen = record { answer = answer; table = t; packets = packets; list = rs; seen = seen }
 
 -- how settling ends after counting, with n flows listed
-abbrev pub stop_after : ℕ → counting.Stop → Stop
-stop_after n count.Done = Done n
-stop_after n (count.Damaged c) = Damaged n c
+abbrev pub stop_after : ℕ → counts.Stop → Stop
+stop_after n (Ok u) = Ok n
+stop_after n (Err c) = Err (damage n c)
 
 -- the lists after counting; marks, FlowXOR, FlowCount and keys stay
 unfoldable pub after_counts : ℕ → Tab → List ℕ → counts.Ended → Settled
@@ -34,9 +30,9 @@ after_counts n t seen e =
 
 -- a 14 while peeling ends the settling
 unfoldable pub then_counts : Layout → Sizes → ℕ → List ℕ → Tab → Records → List ℕ → Stop → Settled
-then_counts l z salt packets t rs seen (Done n) =
+then_counts l z salt packets t rs seen (Ok n) =
     after_counts n t seen (counts_of l z salt n t.flows packets t.unknowns t.positions rs)
-then_counts l z salt packets t rs seen (Damaged n c) = settled (Damaged n c) t packets rs seen
+then_counts l z salt packets t rs seen (Err d) = settled (Err d) t packets rs seen
 
 -- 01 'A session', Settle
 unfoldable pub settle_of : Layout → Sizes → ℕ → ℕ → Tab → List ℕ → Records → List ℕ → Settled

@@ -3,61 +3,49 @@
 
 ghost use Rattle.std.specs.Prelude.{◌≡◌, length};
 ghost use Rattle.layout.specs.Sizes.{table_cells};
-ghost use Rattle.hash.specs.Salted.{after_salt};
-ghost use Rattle.list.specs.Records.{records};
-ghost use Rattle.table.specs.Table.{tab};
+ghost use Rattle.list.specs.Found.{list_of, FoundKept};
+ghost use Rattle.table.specs.Table.{tab_of, TableKept};
 ghost use Rattle.peeling.specs.Peel.{Steady};
-ghost use Rattle.settling.specs.Settle.{settled, stop_after, settle_of};
+ghost use Rattle.settling.specs.Settle.{settled, settle_of};
 
-use hash::Salted;
-use layout::{Layout, Sizes};
-use peeling::Stop;
+use hash::Placing;
+use list::Found;
+use peeling::Damage;
+use table::Table;
 
-// How settling ends after counting, with n flows listed.
-fn stop_after(n: usize, s: counting::Stop) -> Stop
-    ensures { result ≡ stop_after n s }
-{
-    match s {
-        counting::Stop::Done => Stop::Done { listed: n },
-        counting::Stop::Damaged(c) => Stop::Damaged { listed: n, cell: c },
-    }
-}
-
-// Peels while a cell is marked, then counts while a cell is ready. n flows are listed at first; marks and numbers are as the test of 8 has them.
+// Peels while a cell is marked, then counts while a cell is ready; the flows that are then listed. n flows are listed at first;
+// marks and numbers are as the test of 8 has them.
 pub fn settle_all(
-    l: Layout,
-    z: Sizes,
-    salt: u32,
-    h: Salted,
+    p: Placing,
     n: usize,
-    xors: &mut [u8],
-    flows: &mut [u16],
+    table: &mut Table,
     packets: &mut [u32],
-    unknowns: &mut [u16],
-    positions: &mut [u16],
-    marks: &mut [u64],
-    keys: &mut [u8],
-    counts: &mut [u32],
-    flags: &mut [u8],
+    list: &mut Found,
     seen: &mut [u16],
-) -> Stop
-    requires { Steady l z salt n (tab xors.old flows.old unknowns.old positions.old marks.old)
-        (records keys.old counts.old flags.old) seen.old × (length packets.old ≡ table_cells l z) × (h ≡ after_salt salt) }
-    ensures { settled result
-        (tab xors.new flows.new unknowns.new positions.new marks.new)
-        packets.new (records keys.new counts.new flags.new) seen.new
-        ≡ settle_of l z salt n
-        (tab xors.old flows.old unknowns.old positions.old marks.old)
-        packets.old (records keys.old counts.old flags.old) seen.old }
+) -> Result<usize, Damage>
+    requires { Steady p.shape.layout p.shape.sizes p.salt n (tab_of table.old) (list_of list.old) seen.old
+        × (length packets.old ≡ table_cells p.shape.layout p.shape.sizes) }
+    ensures value { settled result (tab_of table.new) packets.new (list_of list.new) seen.new
+        ≡ settle_of p.shape.layout p.shape.sizes p.salt n (tab_of table.old) packets.old (list_of list.old) seen.old }
+    ensures table_kept { TableKept table.new table.old }
+    ensures list_kept { FoundKept list.new list.old }
 {
-    let r = peeling::peels(
-        l, z, salt, h, n, xors, flows, unknowns, positions, marks, keys, counts, flags, seen,
-    );
-    let Stop::Done { listed } = r else {
-        return r;
-    };
-    let s = counting::count_all(
-        l, z, salt, h, listed, flows, packets, unknowns, positions, keys, counts, flags,
-    );
-    stop_after(listed, s)
+    let listed = peeling::peels(p, n, table, list, seen)?;
+    // lent under names of their own, so that a proof knows what they hold afterwards
+    let flows = &mut *table.flows;
+    let keys = &mut *list.keys;
+    match counting::count_all(
+        p,
+        listed,
+        flows,
+        packets,
+        table.unknowns,
+        table.positions,
+        keys,
+        list.counts,
+        list.flags,
+    ) {
+        Ok(()) => Ok(listed),
+        Err(cell) => Err(Damage { listed, cell }),
+    }
 }

@@ -23,27 +23,24 @@ pub struct Report {
     pub state: State,
 }
 
-// Whether every PacketCount is zero; as `fields::is_zero` asks it of bytes.
+// Whether every PacketCount is zero; as `fields::is_zero` asks it of bytes. One function over both would need a trait of ours that sees an element as a
+// number, with a law of `|` and two impls: longer than the two. They are ORed together: a way out at the first other one would cost a branch for each.
 fn no_packet(packets: &[u32]) -> bool
     ensures { result ≡ all_zero packets.now }
 {
     let mut any = 0;
-    let mut i = 0;
-    while i < packets.len() {
-        any = any | packets[i];
-        i += 1;
+    for count in packets {
+        any |= *count;
     }
     any == 0
 }
 
 // Whether nothing is left in FlowXOR and PacketCount of any cell.
+#[tactic(auto, unfolding(crate::specs::Report::nothing_left))]
 fn nothing_left(xors: &[u8], packets: &[u32]) -> bool
     ensures { result ≡ nothing_left xors.now packets.now }
 {
-    if !fields::is_zero(xors) {
-        return false;
-    }
-    no_packet(packets)
+    fields::is_zero(xors) && no_packet(packets)
 }
 
 // The state that open cells, unknown counts and what is left make. Only where it decides are the cells asked what is left.
@@ -51,18 +48,18 @@ fn state_of(opens: usize, unknown: usize, xors: &[u8], packets: &[u32]) -> State
     ensures { result ≡ state_of opens unknown (nothing_left xors.now packets.now) }
 {
     if opens > 0 {
-        return State::Stuck;
+        State::Stuck
+    } else if unknown > 0 {
+        State::Short
+    } else if nothing_left(xors, packets) {
+        State::Whole
+    } else {
+        State::Stray
     }
-    if unknown > 0 {
-        return State::Short;
-    }
-    if nothing_left(xors, packets) {
-        return State::Whole;
-    }
-    State::Stray
 }
 
 // The report where n flows are listed: of their flags and of every cell's FlowXOR, FlowCount and PacketCount.
+#[tactic(auto, unfolding(crate::specs::Report::report_of, crate::specs::Report::counted_in))]
 pub fn report_of(n: usize, xors: &[u8], flows: &[u16], packets: &[u32], flags: &[u8]) -> Report
     requires { n ≤ length flags.now }
     ensures { result ≡ report_of n xors.now flows.now packets.now flags.now }

@@ -1,5 +1,5 @@
 -- Laws of the table.
-pub mod Table
+pub mod Parts
 pub mod Spots
 pub mod Bounds
 pub mod Outcomes

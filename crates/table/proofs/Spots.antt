@@ -19,7 +19,7 @@ use Rattle.list.proofs.Laws.{length-key, key-appended}
 use Rattle.marks.specs.Marks.{Words, words_for}
 use Rattle.marks.proofs.Laws.{marked-same, marked_other, words-put}
 use Rattle.table.specs.Table.{Tab, Fit, Spot, spot_at, pure_at, mixed, one_less, taken_at, taken_out}
-use Rattle.table.proofs.Table.{fit_at}
+use Rattle.table.proofs.Parts.{fit_at}
 
 -- n bits have room in that many words
 pub words-room : (n : ℕ) {m : ℕ} → m ≡ words_for n → n ≤ m * 64

@@ -8,6 +8,7 @@ use Rattle.layout.specs.declared.Sizes.{Sizes}
 use Rattle.layout.specs.Sizes.{Lays, Ranged, part_cells, table_cells}
 use Rattle.hash.specs.Places.{cell_of, has_cell}
 use Rattle.list.specs.Records.{Records, key_at, handed_in, peeled_in}
+use Rattle.table.specs.declared.Table.{Table}
 use Rattle.marks.specs.Marks.{Words, words_for, marked, put_mark}
 
 -- FlowXOR (as many bytes a cell as a key has) and FlowCount, then what a session keeps for each cell:
@@ -22,6 +23,17 @@ pub record Tab : Type 0 where
 abbrev pub tab : List ℕ → List ℕ → List ℕ → List ℕ → List ℕ → Tab
 tab xors flows unknowns positions marks =
     record { xors = xors; flows = flows; unknowns = unknowns; positions = positions; marks = marks }
+
+-- what the lent slices hold, and that the same five are lent, whatever they hold
+abbrev pub tab_of : Table → Tab
+tab_of t = tab t.xors.now t.flows.now t.unknowns.now t.positions.now t.marks.now
+
+abbrev pub TableKept : Table → Table → Type 0
+TableKept t u =
+    (t.xors.ghost_name ≡ u.xors.ghost_name) × (t.flows.ghost_name ≡ u.flows.ghost_name) × (t.unknowns.ghost_name ≡ u.unknowns.ghost_name)
+    × (t.positions.ghost_name ≡ u.positions.ghost_name) × (t.marks.ghost_name ≡ u.marks.ghost_name)
+    × (t.xors.ref_ptr ≡ u.xors.ref_ptr) × (t.flows.ref_ptr ≡ u.flows.ref_ptr) × (t.unknowns.ref_ptr ≡ u.unknowns.ref_ptr)
+    × (t.positions.ref_ptr ≡ u.positions.ref_ptr) × (t.marks.ref_ptr ≡ u.marks.ref_ptr)
 
 -- a layout and sizes, and lists of the lengths that they give
 pub record Fit (l : Layout) (z : Sizes) (t : Tab) : Type 0 where

@@ -2,102 +2,102 @@
 // It rests on marks, on fields for FlowXOR and on hash for a flow's cells, over any layout.
 #![tactic(auto)]
 
-ghost use Rattle.std.specs.Prelude.{◌≡◌, ◌-◌, ◌<◌, ◌≤◌, length};
+ghost use Rattle.std.specs.Prelude.{◌≡◌, ◌<◌, ◌≤◌, length};
 ghost use Rattle.laws.specs.Upto.{list_upto};
-ghost use Rattle.layout.specs.Sizes.{Lays, Ranged};
+ghost use Rattle.marks.specs.Marks.{first_found};
+ghost use Rattle.list.specs.Records.{key_at};
 ghost use Rattle.hash.specs.Places.{cell_of, Within};
-ghost use Rattle.hash.specs.Salted.{after_salt};
-ghost use Rattle.table.specs.Table.{tab, Fit, InPart, InBytes, pure_at, any_empty, taken_at, taken_out};
+ghost use Rattle.table.specs.Table.{
+  tab_of,
+  TableKept,
+  Fit,
+  InPart,
+  InBytes,
+  pure_at,
+  any_empty,
+  taken_at,
+  taken_out,
+};
 
-use hash::{Cells, Salted};
-use layout::{Layout, Sizes};
+use hash::{Cells, Placing};
+use layout::Layout;
 
-// Whether cell c, which lies in part i, is pure. Only hash i can choose a cell there, so no other is worked out.
-pub fn is_pure(
-    l: Layout,
-    z: Sizes,
-    salt: u32,
-    h: Salted,
-    i: usize,
-    xors: &[u8],
-    flows: &[u16],
-    c: usize,
-) -> bool
-    requires { Lays l × Ranged z × InPart l z i c × InBytes l (length xors.now) c × (c < length flows.now) × (h ≡ after_salt salt) }
-    ensures { result ≡ pure_at l z salt xors.now flows.now c }
+// The cells of a session in lent slices: FlowXOR as a key's bytes for each, FlowCount, what is unknown there, and a mark. The slices stay apart, as C lends them;
+// PacketCount is not among them, since `elderflute_hand_over` lends it to be read.
+#[derive(Drop)]
+pub struct Table<'a> {
+    pub xors: &'a mut [u8],
+    pub flows: &'a mut [u16],
+    pub unknowns: &'a mut [u16],
+    pub positions: &'a mut [u16],
+    pub marks: &'a mut [u64],
+}
+
+// Whether cell c, which lies in part i, is pure. Only hash i can choose a cell there, so no other is worked out. Over slices, for a `TableRef` and a `Table` alike.
+pub fn is_pure(p: Placing, i: usize, xors: &[u8], flows: &[u16], c: usize) -> bool
+    requires { InPart p.shape.layout p.shape.sizes i c × InBytes p.shape.layout (length xors.now) c × (c < length flows.now) }
+    ensures { result ≡ pure_at p.shape.layout p.shape.sizes p.salt xors.now flows.now c }
 {
-    if flows[c] != 1 {
-        return false;
+    flows[c] == 1 && p.cell_of(i, list::key_at(p.shape.layout, xors, c)) == c
+}
+
+impl Table<'_> {
+    // The lowest marked cell, where one is marked.
+    pub fn first_mark(&self) -> Option<usize>
+        requires { length self.now.marks.now ≤ 256 }
+        ensures { result ≡ first_found self.now.marks.now }
+    {
+        marks::first_mark(self.marks)
     }
-    let a = c * l.key;
-    let e = a + l.key;
-    hash::cell_of(l, z, salt, h, i, &xors[a..e]) == c
-}
 
-// One less, and never below 0: a peel finds no 0 here, and this function need not know that.
-fn less(x: u16) -> u16
-    ensures { result ≡ x - 1 }
-{
-    if x == 0 { 0 } else { x - 1 }
-}
+    // FlowXOR of cell c, taken as a key.
+    pub fn key(&self, l: Layout, c: usize) -> &[u8]
+        requires { InBytes l (length self.now.xors.now) c }
+        ensures { result.now ≡ key_at l self.now.xors.now c }
+    {
+        list::key_at(l, self.xors, c)
+    }
 
-// Takes a key that is listed at a position out of its cell c, which lies in part i.
-fn take_one(
-    l: Layout,
-    z: Sizes,
-    salt: u32,
-    h: Salted,
-    key: &[u8],
-    position: u16,
-    i: usize,
-    c: usize,
-    xors: &mut [u8],
-    flows: &mut [u16],
-    unknowns: &mut [u16],
-    positions: &mut [u16],
-    marks: &mut [u64],
-)
-    requires { Fit l z (tab xors.old flows.old unknowns.old positions.old marks.old) × InPart l z i c × (length key.now ≡ l.key) × (h ≡ after_salt salt) }
-    ensures { tab xors.new flows.new unknowns.new positions.new marks.new
-        ≡ taken_at l z salt key.now position c
-        (tab xors.old flows.old unknowns.old positions.old marks.old) }
-{
-    fields::xor_at(xors, c * l.key, key);
-    flows[c] = less(flows[c]);
-    unknowns[c] = std::num::wrapping_add_u16(unknowns[c], 1);
-    positions[c] = positions[c] ^ position;
-    let pure = is_pure(l, z, salt, h, i, xors, flows, c);
-    marks::put_mark(marks, c, pure);
-}
+    // Whether one of the first k places has FlowCount 0.
+    pub fn any_empty(&self, at: Cells, k: usize) -> bool
+        requires { (k ≤ 4) × Within at.at k (length self.now.flows.now) }
+        ensures { result ≡ any_empty at.at k self.now.flows.now }
+    {
+        any_empty(at, k, self.flows)
+    }
 
-// Takes a key that is listed at a position out of its k cells.
-pub fn take_out(
-    l: Layout,
-    z: Sizes,
-    salt: u32,
-    h: Salted,
-    at: Cells,
-    key: &[u8],
-    position: u16,
-    xors: &mut [u8],
-    flows: &mut [u16],
-    unknowns: &mut [u16],
-    positions: &mut [u16],
-    marks: &mut [u64],
-)
-    requires { Fit l z (tab xors.old flows.old unknowns.old positions.old marks.old)
-        × (at.at ≡ list_upto 4 (cell_of l z salt key.now)) × (length key.now ≡ l.key) × (h ≡ after_salt salt) }
-    ensures { tab xors.new flows.new unknowns.new positions.new marks.new
-        ≡ taken_out l z salt key.now position
-        (tab xors.old flows.old unknowns.old positions.old marks.old) }
-{
-    let mut i = 0;
-    while i < z.k {
-        let c = at.at[i];
-        take_one(
-            l, z, salt, h, key, position, i, c, xors, flows, unknowns, positions, marks,
-        );
-        i += 1;
+    // Whether cell c, which lies in part i, is pure.
+    pub fn is_pure(&self, p: Placing, i: usize, c: usize) -> bool
+        requires { InPart p.shape.layout p.shape.sizes i c × InBytes p.shape.layout (length self.now.xors.now) c × (c < length self.now.flows.now) }
+        ensures { result ≡ pure_at p.shape.layout p.shape.sizes p.salt self.now.xors.now self.now.flows.now c }
+    {
+        is_pure(p, i, self.xors, self.flows, c)
+    }
+
+    // Takes a key that is listed at a position out of its cell c, which lies in part i.
+    fn take_one(&mut self, p: Placing, key: &[u8], position: u16, i: usize, c: usize)
+        requires { Fit p.shape.layout p.shape.sizes (tab_of self.old) × InPart p.shape.layout p.shape.sizes i c × (length key.now ≡ p.shape.layout.key) }
+        ensures value { tab_of self.new ≡ taken_at p.shape.layout p.shape.sizes p.salt key.now position c (tab_of self.old) }
+        ensures kept { TableKept self.new self.old }
+    {
+        fields::xor_at(self.xors, c * p.shape.layout.key, key);
+        self.flows[c] = self.flows[c].saturating_sub(1);
+        self.unknowns[c] = self.unknowns[c].wrapping_add(1);
+        self.positions[c] ^= position;
+        let pure = self.is_pure(p, i, c);
+        marks::put_mark(self.marks, c, pure);
+    }
+
+    // Takes a key that is listed at a position out of its k cells.
+    pub fn take_out(&mut self, p: Placing, at: Cells, key: &[u8], position: u16)
+        requires { Fit p.shape.layout p.shape.sizes (tab_of self.old)
+            × (at.at ≡ list_upto 4 (cell_of p.shape.layout p.shape.sizes p.salt key.now)) × (length key.now ≡ p.shape.layout.key) }
+        ensures value { tab_of self.new ≡ taken_out p.shape.layout p.shape.sizes p.salt key.now position (tab_of self.old) }
+        ensures kept { TableKept self.new self.old }
+    {
+        for i in 0..p.shape.sizes.k {
+            self.take_one(p, key, position, i, at.at[i]);
+        }
     }
 }
 
@@ -106,13 +106,15 @@ pub fn any_empty(at: Cells, k: usize, flows: &[u16]) -> bool
     requires { (k ≤ 4) × Within at.at k (length flows.now) }
     ensures { result ≡ any_empty at.at k flows.now }
 {
-    let mut i = 0;
-    while i < k {
-        let c = at.at[i];
-        if flows[c] == 0 {
-            return true;
-        }
-        i += 1;
-    }
-    false
+    (0..k).any(|i| flows[at.at[i]] == 0)
+}
+
+// The cells of a session lent to be read, beside the value above for the same reason as `FoundRef`.
+#[derive(Clone, Copy)]
+pub struct TableRef<'a> {
+    pub xors: &'a [u8],
+    pub flows: &'a [u16],
+    pub unknowns: &'a [u16],
+    pub positions: &'a [u16],
+    pub marks: &'a [u64],
 }

@@ -1,3 +1,4 @@
--- Laws of filling from the generator.
+-- Laws of writing in hexadecimal, and of filling from the generator.
 pub mod Filling
 pub mod Outcomes
+pub mod Written

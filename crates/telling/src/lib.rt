@@ -1,7 +1,10 @@
-// What a test program needs: writing a line piece by piece, and filling buffers from a generator. It rests on laws and std's io.
+// What a test program needs: writing bytes in hexadecimal, and filling buffers from a generator. It rests on laws, hex and std's io.
 #![tactic(auto)]
 
-ghost use Rattle.std.specs.Prelude.{◌≡◌, min, length};
+ghost use Rattle.std.specs.Prelude.{◌≡◌, length, OnOk};
+ghost use Rattle.std.specs.Io.KnownBytes.{Appends};
+ghost use Rattle.hex.specs.Hex.{encode_lower};
+ghost use Rattle.telling.specs.Shown.{shown};
 ghost use Rattle.telling.specs.Generator.{next_number, after_numbers, random_bytes};
 
 use std::io;
@@ -9,72 +12,27 @@ use std::io::Write;
 
 // ---- writing
 
-pub fn say(out: &mut impl Write, bytes: &[u8]) -> io::Result<()> {
-    out.write_all(bytes)
-}
-
-pub fn say_number(out: &mut impl Write, n: u64) -> io::Result<()> {
-    write!(out, "{n}")
-}
-
-// A space, then a number.
-pub fn say_next(out: &mut impl Write, n: u64) -> io::Result<()> {
-    say(out, b" ")?;
-    say_number(out, n)
-}
-
-// One hexadecimal digit.
-fn digit(x: u8) -> u8 {
-    let d = x % 16;
-    if d < 10 {
-        return 48 + d;
-    }
-    87 + d
-}
-
-// Bytes in hexadecimal, up to 2,048 of them.
-fn say_some_hex(out: &mut impl Write, bytes: &[u8]) -> io::Result<()> {
-    let mut text = [0u8; 4096];
-    let mut i = 0;
-    while i < bytes.len() {
-        if 2048 <= i {
-            return say(out, &text);
-        }
-        text[2 * i] = digit(bytes[i] / 16);
-        text[2 * i + 1] = digit(bytes[i]);
-        i += 1;
-    }
-    let n = 2 * i;
-    say(out, &text[..n])
-}
-
-fn least(a: usize, b: usize) -> usize
-    ensures { result ≡ min a b }
+// Bytes in hexadecimal, 2,048 of them at a write: each write is a call of the system.
+pub fn say_hex<W: Write>(out: &mut W, bytes: &[u8]) -> io::Result<()>
+    ensures { OnOk result (Appends (W.contents out.old) (W.contents out.new) (encode_lower bytes.now)) }
 {
-    if a < b {
-        return a;
-    }
-    b
-}
-
-// Bytes in hexadecimal.
-pub fn say_hex(out: &mut impl Write, bytes: &[u8]) -> io::Result<()> {
-    let mut rest = bytes.len();
-    while 0 < rest {
-        let from = bytes.len() - rest;
-        let to = from + least(rest, 2048);
-        say_some_hex(out, &bytes[from..to])?;
-        rest -= least(rest, 2048);
+    let mut room = [0u8; 4096];
+    for chunk in bytes.chunks(2048) {
+        let text = &mut room[..2 * chunk.len()];
+        hex::encode_to_slice(chunk, text).unwrap();
+        out.write_all(text)?;
     }
     Ok(())
 }
 
 // A space; then bytes in hexadecimal, or a dot where there are none.
-pub fn say_buffer(out: &mut impl Write, bytes: &[u8]) -> io::Result<()> {
-    say(out, b" ")?;
-    if bytes.len() == 0 {
-        return say(out, b".");
+pub fn say_buffer<W: Write>(out: &mut W, bytes: &[u8]) -> io::Result<()>
+    ensures { OnOk result (Appends (W.contents out.old) (W.contents out.new) (shown bytes.now)) }
+{
+    if bytes.is_empty() {
+        return out.write_all(b" .");
     }
+    out.write_all(b" ")?;
     say_hex(out, bytes)
 }
 
@@ -84,7 +42,7 @@ pub fn say_buffer(out: &mut impl Write, bytes: &[u8]) -> io::Result<()> {
 fn next_number(x: u32) -> u32
     ensures { result ≡ next_number x }
 {
-    (((x as u64) * 1664525 + 1013904223) % 4294967296) as u32
+    x.wrapping_mul(1664525).wrapping_add(1013904223)
 }
 
 // Fills a buffer from the generator, and gives the generator's state afterwards.
@@ -92,11 +50,9 @@ pub fn fill_random(s: &mut [u8], seed: u32) -> u32
     ensures { (result ≡ after_numbers (length s.old) seed) × (s.new ≡ random_bytes (length s.old) seed) }
 {
     let mut x = seed;
-    let mut i = 0;
-    while i < s.len() {
+    for b in s.iter_mut() {
         x = next_number(x);
-        s[i] = (x / 16777216) as u8;
-        i += 1;
+        *b = (x >> 24) as u8;
     }
     x
 }

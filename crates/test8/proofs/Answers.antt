@@ -1,12 +1,18 @@
 -- What passing the test says, clause by clause; a clause that fails refuses; and the code's own ways to each clause.
-use Rattle.std.proofs.Common.{◌≡◌, ℕ, ◌+◌, ◌-◌, ◌*◌, ◌<◌, ◌≤◌, Bool, true, false, cond, not, ◌&&◌, eqb, leb, List, length, get_or, sym, refl, ap, ◌∙◌, inl, inr, arith, le-ltb, lt-ltb}
-use Rattle.laws.specs.Upto.{any_upto, all_upto, number_upto}
-use Rattle.laws.proofs.Upto.{all_same}
-use Rattle.laws.proofs.Bools.{split, and_l, and_r, not_t}
+use Rattle.std.proofs.Common.{◌≡◌, ℕ, zero, suc, add-one, eq-eqb, take, ◌+◌, ◌-◌, ◌*◌, ◌<◌, ◌≤◌, Bool, true, false, cond, not, ◌&&◌, eqb, leb, List, length, get_or, sym, refl, ap, ◌∙◌, inl, inr, arith, le-ltb, lt-ltb}
+use Rattle.laws.specs.Upto.{all_upto, number_upto}
+use Rattle.laws.proofs.Upto.{all_same, all_yes, all-at}
+use Rattle.laws.proofs.Bools.{split, and_l, and_r, not_t, iff}
+use Rattle.std.proofs.lemmas.List.{get_or-take, length-take-le, ext_get_or}
+use Rattle.std.proofs.lemmas.List.Sums.{count_by_more_yes, count_by_more_no}
+use Rattle.std.proofs.lemmas.Slice.Eq.{bytes_eq-Decides}
+use Rattle.std.specs.Cmp.Lexicographic.{pointwise}
+use Rattle.std.specs.List.{count_by}
+use borrow.Author.Tests.{eqb-true}
 use Rattle.layout.specs.declared.Layout.{Layout}
 use Rattle.layout.specs.declared.Sizes.{Sizes}
 use Rattle.layout.specs.Sizes.{table_cells}
-use Rattle.list.specs.Records.{Records, is_known, is_handed, handed_in, peeled_in}
+use Rattle.list.specs.Records.{Records, is_handed, handed_in, peeled_in}
 use Rattle.table.specs.Table.{Tab, open_in}
 use Rattle.test8.specs.Given.{flag_set, seen_upto}
 use Rattle.test8.specs.Test8.{over_listed, keys_repeat, zero_count, numbers_in, marks_right, rest_clear}
@@ -53,21 +59,20 @@ module _ (l : Layout) (z : Sizes) (salt n : ℕ) (t : Tab) (rs : Records) where
   pub refused : (Passed l z salt n t rs → ⊥) → false ≡ is_session l z salt n t rs
   refused h = elim (split (is_session l z salt n t rs)) [ inl p ↦ absurd (h (passed p)) | inr p ↦ sym p ]
 
-  -- where nothing else is left, the positions decide
-  pub decided : {b : Bool} → over_listed l z n ≡ false → keys_repeat l n rs.keys ≡ false → zero_count n rs ≡ false
-      → numbers_in (table_cells l z) n t.flows rs ≡ true → marks_right l z salt t.xors t.flows t.marks ≡ true
-      → rest_clear (table_cells l z) t.marks ≡ true
-      → all_upto (table_cells l z) (λ c. eqb (get_or t.unknowns c 0) (unknowns_given l z salt n rs c)) ≡ true
-      → b ≡ all_upto (table_cells l z) (λ c. eqb (get_or t.positions c 0) (positions_given l z salt n rs c))
+  -- where not too many are listed and no key repeats, the rest decides; the numbers that it compares are those that are given
+  pub decided : {b : Bool} (us ps : List ℕ) → over_listed l z n ≡ false → keys_repeat l n rs.keys ≡ false
+      → ((c : ℕ) → get_or us c 0 ≡ unknowns_given l z salt n rs c) → ((c : ℕ) → get_or ps c 0 ≡ positions_given l z salt n rs c)
+      → b ≡ (not (zero_count n rs) && (numbers_in (table_cells l z) n t.flows rs && (marks_right l z salt t.xors t.flows t.marks
+      && (rest_clear (table_cells l z) t.marks && (all_upto (table_cells l z) (λ c. eqb (get_or t.unknowns c 0) (get_or us c 0))
+      && all_upto (table_cells l z) (λ c. eqb (get_or t.positions c 0) (get_or ps c 0)))))))
       → b ≡ is_session l z salt n t rs
   unfolding is_session notes_right
-  decided e₁ e₂ e₃ e₄ e₅ e₆ e₇ e₈ = rw (e₁, e₂, e₃, e₄, e₅, e₆, e₇) e₈
-
-  -- wrong numbers of unknown flows, or wrong positions
-  pub unknowns-wrong : all_upto (table_cells l z) (λ c. eqb (get_or t.unknowns c 0) (unknowns_given l z salt n rs c)) ≡ false
-      → notes_right l z salt n rs t.unknowns t.positions ≡ false
-  unfolding notes_right
-  unknowns-wrong e = rw e
+  decided us ps e f u q h =
+      let m = table_cells l z in
+      let given : (a b : List ℕ) (g : ℕ → ℕ) → ((c : ℕ) → get_or b c 0 ≡ g c)
+      → all_upto m (λ c. eqb (get_or a c 0) (get_or b c 0)) ≡ all_upto m (λ c. eqb (get_or a c 0) (g c)) =
+      λ a b g k. all_same m (λ c. eqb (get_or a c 0) (get_or b c 0)) (λ c. eqb (get_or a c 0) (g c)) (λ c l. ap (eqb (get_or a c 0)) (k c)) in
+      h ∙ rw (e, f, given t.unknowns us (unknowns_given l z salt n rs) u, given t.positions ps (positions_given l z salt n rs) q)
 
 -- ---- the code's ways to the clauses
 pub over_yes : (l : Layout) (z : Sizes) (n : ℕ) {cells : ℕ} → cells ≡ table_cells l z → 2 * cells < n → over_listed l z n ≡ true
@@ -77,10 +82,6 @@ over_yes l z n e h = lt-ltb (2 * table_cells l z) n (rw e at h)
 pub over_no : (l : Layout) (z : Sizes) (n : ℕ) {cells : ℕ} → cells ≡ table_cells l z → n ≤ 2 * cells → over_listed l z n ≡ false
 unfolding over_listed
 over_no l z n e h = le-ltb (2 * table_cells l z) n (rw e at h)
-
-pub zero_is : (n : ℕ) (rs : Records) → any_upto n (λ i. flag_set 0 (get_or rs.flags i 0) && eqb (get_or rs.counts i 0) 0) ≡ zero_count n rs
-unfolding zero_count is_known
-zero_is n rs = refl
 
 -- the peeled flows are those that were not handed over
 pub numbers-is : (n : ℕ) (flows : List ℕ) (rs : Records) {cells : ℕ} → length flows ≡ cells
@@ -99,10 +100,21 @@ pub seen-in : (l : Layout) (z : Sizes) (salt n : ℕ)
     → s ≡ seen_upto l z salt (cond (over_listed l z n) 0 n) keys seen
 seen-in l z salt n keys seen e f = rw e f
 
--- numbers compared with wanted ones, which are what is given
-pub compared : (numbers : List ℕ) (given : ℕ → ℕ) {n cells : ℕ} {wanted right : List ℕ} {b : Bool} → cells ≡ n → wanted ≡ right
-    → ((c : ℕ) → get_or right c 0 ≡ given c) → b ≡ all_upto cells (λ c. eqb (get_or numbers c 0) (get_or wanted c 0))
-    → b ≡ all_upto n (λ c. eqb (get_or numbers c 0) (given c))
-compared numbers given {n = n} {right = right} e f h g =
-    g ∙ rw (e, f) (all_same n (λ c. eqb (get_or numbers c 0) (get_or right c 0)) (λ c. eqb (get_or numbers c 0) (given c))
-    (λ c p. ap (eqb (get_or numbers c 0)) (h c)))
+-- how many of the first n numbers pass, counted in the slice
+pub counted : (q : ℕ → Bool) (s : List ℕ) (n : ℕ) → n ≤ length s → count_by q (take n s) ≡ number_upto n (λ i. q (get_or s i 0))
+unfolding number_upto
+counted q s zero h = refl
+counted q s (suc n) h = ap (λ m. count_by q (take m s)) (sym (add-one n)) ∙ elim (split (q (get_or s n 0))) [
+  | inl p ↦ count_by_more_yes q s n 0 (omega arith) p ∙ rw (counted q s n (omega arith), p)
+  | inr p ↦ count_by_more_no q s n 0 (omega arith) p ∙ rw (counted q s n (omega arith), p) (omega arith)
+]
+
+-- what == says of a slice and the first n numbers of another
+pub same-first : (a b : List ℕ) (n : ℕ) → length a ≡ n → n ≤ length b
+    → pointwise eqb a (take n b) ≡ all_upto n (λ c. eqb (get_or a c 0) (get_or b c 0))
+same-first a b n e h =
+    let d = bytes_eq-Decides a (take n b) in
+    iff (pointwise eqb a (take n b)) (all_upto n (λ c. eqb (get_or a c 0) (get_or b c 0)))
+    (λ p. all_yes n (λ c. eqb (get_or a c 0) (get_or b c 0)) (λ c l. eq-eqb _ _ (ap (λ x. get_or x c 0) (d.0 p) ∙ get_or-take n b c 0 l)))
+    (λ p. d.1 (ext_get_or 0 a (take n b) (e ∙ sym (length-take-le n b h))
+    (λ c l. eqb-true _ _ (all-at n (λ c. eqb (get_or a c 0) (get_or b c 0)) p c (omega arith)) ∙ sym (get_or-take n b c 0 (omega arith)))))

@@ -137,8 +137,8 @@ module _ (l : Layout) (z : Sizes) (lays : Lays l) (r : Ranged z) (salt : ℕ) wh
   pub places-small : (key : List ℕ) {at : List ℕ} → at ≡ list_upto 4 (cell_of l z salt key) → Within at 2 1536
   places-small key e j h = omega (arith, places-within l z lays r salt key e j (omega (arith, r.k-low)), table-high l z lays r)
 
-  pub places-wide : (key s : List ℕ) {at : List ℕ} → length s ≡ 1536 → at ≡ list_upto 4 (cell_of l z salt key) → Within at z.k (length s)
-  places-wide key s q e j h = omega (arith, places-within l z lays r salt key e j h, table-high l z lays r)
+  pub places-wide : (key : List ℕ) {at : List ℕ} → at ≡ list_upto 4 (cell_of l z salt key) → Within at z.k 1536
+  places-wide key e j h = omega (arith, places-within l z lays r salt key e j h, table-high l z lays r)
 
 module _ (l : Layout) (z : Sizes) (salt : ℕ) (keys : List ℕ) (i : ℕ) {key at : List ℕ} where
   -- the bucket leads to the key, where it is among the first i

@@ -16,8 +16,4 @@ pub open-in-determined : Determined _ open-in-kinds.ps open-in-kinds.r open_in.A
 open-in-determined κs a p z z' ws ws' e e' = (e.0 ∙ sym e'.0, refl)
 
 pub is-session-seen-determined : Determined _ is-session-seen-kinds.ps is-session-seen-kinds.r is-session-seen.Asked is-session-seen.Learnt
-is-session-seen-determined κs a p z z' ws ws' e e' = (
-  e.0 ∙ sym e'.0,
-  both refl (both refl (both refl (both refl (both refl (both refl (both refl
-      (both refl (both refl (both refl (both refl (both refl (both refl (both (e.1 ∙ sym e'.1) refl))))))))))))),
-)
+is-session-seen-determined κs a p z z' ws ws' e e' = (e.0 ∙ sym e'.0, both refl (both refl (both refl (both refl (both (e.1 ∙ sym e'.1) refl)))))

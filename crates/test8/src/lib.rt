@@ -2,27 +2,30 @@
 // It rests on list and marks, on hash for a flow's cells, on table for pure cells, and on found and index for listed flows.
 #![tactic(auto)]
 
-ghost use Rattle.std.specs.Prelude.{◌≡◌, ◌+◌, ◌-◌, ◌*◌, ◌<◌, ◌≤◌, ◌&&◌, ◌||◌, leb, length, if◌then◌else◌, ◌==◌, nat_eq, nat_le, slice_index};
-ghost use Rattle.laws.specs.Upto.{any_upto, all_upto, number_upto};
-ghost use Rattle.layout.specs.Sizes.{Lays, Ranged, table_cells};
-ghost use Rattle.list.specs.Records.{records, Room};
+ghost use Rattle.std.specs.Prelude.{◌≡◌, ◌+◌, ◌-◌, ◌*◌, ◌<◌, ◌≤◌, ◌&&◌, length, not, if◌then◌else◌, ◌==◌, nat_eq, slice_index};
+ghost use Rattle.laws.specs.Upto.{all_upto, number_upto};
+ghost use Rattle.layout.specs.Sizes.{table_cells};
+ghost use Rattle.list.specs.Records.{Room};
+ghost use Rattle.list.specs.Seen.{list_seen};
 ghost use Rattle.index.specs.Index.{Empty};
-ghost use Rattle.marks.specs.Marks.{words_for};
-ghost use Rattle.table.specs.Table.{tab, Fit, open_in};
+ghost use Rattle.marks.specs.Marks.{words_for, marked};
+ghost use Rattle.table.specs.Table.{Fit, pure_at, open_in};
+ghost use Rattle.table.specs.Seen.{tab_seen};
 ghost use Rattle.hash.specs.Places.{Within};
-ghost use Rattle.hash.specs.Salted.{after_salt};
 ghost use Rattle.test8.specs.Given.{flag_set, renewed, one_more, mixed_in, noted, seen_upto};
-ghost use Rattle.test8.specs.Test8.{over_listed, keys_repeat, agrees, marks_right, rest_clear, is_session};
+ghost use Rattle.test8.specs.Test8.{over_listed, keys_repeat, zero_count, numbers_in, agrees, marks_right, rest_clear, is_session};
 
-use hash::{Cells, Salted};
-use layout::{Layout, Sizes};
+use hash::{Cells, Placing};
+use list::FoundRef;
+use table::TableRef;
 
-// The bits of a record's flags: its count is known; it was handed over.
+// The bits of a record's flags: its count is known; it was handed over. They stay bits, since the C interface lends the byte.
 pub const KNOWN: usize = 0;
 
 pub const HANDED: usize = 1;
 
 // Whether a bit of a record's flags is set.
+#[tactic(auto, unfolding(laws::specs::Digit::digit))]
 fn has_flag(flag: u8, bit: usize) -> bool
     requires { bit < 8 }
     ensures { result ≡ flag_set bit flag }
@@ -30,190 +33,139 @@ fn has_flag(flag: u8, bit: usize) -> bool
     (flag >> bit) % 2 == 1
 }
 
-// Truth values: as a number, both the same, one of two.
-fn number(b: bool) -> usize
-    ensures { (result ≡ (if b then 1 else 0)) × (result ≤ 1) }
-{
-    if b { 1 } else { 0 }
-}
-
-fn agree(a: bool, b: bool) -> bool
-    ensures { result ≡ agrees a b }
-{
-    if a {
-        return b;
-    }
-    !b
-}
-
-fn either(a: bool, b: bool) -> bool
-    ensures { result ≡ (a || b) }
-{
-    if a {
-        return true;
-    }
-    b
-}
-
 // Whether a record has a known count that is 0.
 fn is_zero_count(flag: u8, count: u32) -> bool
     ensures { result ≡ (flag_set 0 flag && count == 0) }
 {
-    if !has_flag(flag, KNOWN) {
-        return false;
-    }
-    count == 0
+    has_flag(flag, KNOWN) && count == 0
 }
 
 // Whether one of the first n records has a known count that is 0.
-fn any_zero_count(n: usize, counts: &[u32], flags: &[u8]) -> bool
-    requires { (n ≤ length counts.now) × (n ≤ length flags.now) }
-    ensures { result ≡ any_upto n (λ i. flag_set 0 (slice_index flags.now i) && slice_index counts.now i == 0) }
+fn any_zero_count(n: usize, list: FoundRef<'_>) -> bool
+    requires { (n ≤ length list.counts.now) × (n ≤ length list.flags.now) }
+    ensures { result ≡ zero_count n (list_seen list.entry) }
 {
-    let mut i = 0;
-    while i < n {
-        if is_zero_count(flags[i], counts[i]) {
-            return true;
-        }
-        i += 1;
-    }
-    false
+    (0..n).any(|i| is_zero_count(list.flags[i], list.counts[i]))
 }
 
-// How many of the first n records have a bit of their flags set.
+// How many of the first n records have a bit of their flags set. The bit is a number, since the clause promises for each of the 8.
 pub fn flagged_in(n: usize, bit: usize, flags: &[u8]) -> usize
     requires { (n ≤ length flags.now) × (bit < 8) }
     ensures { (result ≡ number_upto n (λ i. flag_set bit (slice_index flags.now i))) × (result ≤ n) }
 {
-    let mut flagged = 0;
-    let mut i = 0;
-    while i < n {
-        flagged += number(has_flag(flags[i], bit));
-        i += 1;
-    }
-    flagged
+    flags[..n]
+        .iter()
+        .filter(|flag| has_flag(**flag, bit))
+        .count()
 }
 
 // How many cells have FlowCount above 0.
 pub fn open_in(flows: &[u16]) -> usize
     ensures { (result ≡ open_in (length flows.now) flows.now) × (result ≤ length flows.now) }
 {
-    let mut opens = 0;
-    let mut c = 0;
-    while c < flows.len() {
-        opens += number(flows[c] > 0);
-        c += 1;
-    }
-    opens
+    flows.iter().filter(|flow| **flow > 0).count()
 }
 
 // Whether neither the flows handed over nor the peeled ones and the open cells are more than the cells.
-fn numbers_in(n: usize, flows: &[u16], flags: &[u8]) -> bool
-    requires { (n ≤ length flags.now) × (n ≤ 3072) × (length flows.now ≤ 1536) }
-    ensures { result ≡ (nat_le (number_upto n (λ i. flag_set 1 (slice_index flags.now i))) (length flows.now)
-        && leb (n - number_upto n (λ i. flag_set 1 (slice_index flags.now i)) + open_in (length flows.now) flows.now)
-        (length flows.now)) }
+fn numbers_in(n: usize, flows: &[u16], list: FoundRef<'_>) -> bool
+    requires { (n ≤ length list.flags.now) × (n ≤ 3072) × (length flows.now ≤ 1536) }
+    ensures { result ≡ numbers_in (length flows.now) n flows.now (list_seen list.entry) }
 {
-    let handed = flagged_in(n, HANDED, flags);
-    if handed > flows.len() {
-        return false;
-    }
-    n - handed + open_in(flows) <= flows.len()
+    let handed = flagged_in(n, HANDED, list.flags);
+    handed <= flows.len() && n - handed + open_in(flows) <= flows.len()
 }
 
-// Adds the flow at a list position to the two numbers of its first k places.
-fn note_at(at: Cells, k: usize, position: u16, unknowns: &mut [u16], positions: &mut [u16])
-    requires { (k ≤ 4) × Within at.at k (length unknowns.old) × (length positions.old ≡ length unknowns.old) }
-    ensures { (unknowns.new ≡ renewed (one_more position) (λ i. slice_index at.at i) k unknowns.old)
-        × (positions.new ≡ renewed (mixed_in position) (λ i. slice_index at.at i) k positions.old) }
-{
-    let mut i = 0;
-    while i < k {
-        let c = at.at[i];
-        unknowns[c] = std::num::wrapping_add_u16(unknowns[c], 1);
-        positions[c] = positions[c] ^ position;
-        i += 1;
-    }
+// For each cell what is worked out anew: how many of its flows have no known count, and the XOR of their list positions.
+// Two arrays, as the two numbers are lent in two slices, with which they are compared whole.
+#[derive(Drop)]
+struct CellNumbers {
+    unknowns: [u16; 1536],
+    positions: [u16; 1536],
 }
 
-// The same where the flow's count is unknown.
-fn note_flow(
-    at: Cells,
-    k: usize,
-    flag: u8,
-    position: u16,
-    unknowns: &mut [u16],
-    positions: &mut [u16],
-)
-    requires { (k ≤ 4) × Within at.at k (length unknowns.old) × (length positions.old ≡ length unknowns.old) }
-    ensures { (unknowns.new
-        ≡ (if flag_set 0 flag then unknowns.old else renewed (one_more position) (λ i. slice_index at.at i) k unknowns.old))
-        × (positions.new
-        ≡ (if flag_set 0 flag then positions.old else renewed (mixed_in position) (λ i. slice_index at.at i) k positions.old)) }
-{
-    if has_flag(flag, KNOWN) {
-        return;
+impl CellNumbers {
+    // Adds the flow at a list position to the two numbers of its first k places.
+    fn add(&mut self, at: Cells, k: usize, position: u16)
+        requires { (k ≤ 4) × Within at.at k 1536 }
+        ensures { (self.new.unknowns ≡ renewed (one_more position) (λ i. slice_index at.at i) k self.old.unknowns)
+            × (self.new.positions ≡ renewed (mixed_in position) (λ i. slice_index at.at i) k self.old.positions) }
+    {
+        for &c in &at.at[..k] {
+            self.unknowns[c] = self.unknowns[c].wrapping_add(1);
+            self.positions[c] ^= position;
+        }
     }
-    note_at(at, k, position, unknowns, positions);
+
+    // The same where the flow's count is unknown.
+    fn add_unknown(&mut self, at: Cells, k: usize, flag: u8, position: u16)
+        requires { (k ≤ 4) × Within at.at k 1536 }
+        ensures { (self.new.unknowns
+            ≡ (if flag_set 0 flag then self.old.unknowns else renewed (one_more position) (λ i. slice_index at.at i) k self.old.unknowns))
+            × (self.new.positions
+            ≡ (if flag_set 0 flag then self.old.positions else renewed (mixed_in position) (λ i. slice_index at.at i) k self.old.positions)) }
+    {
+        if !has_flag(flag, KNOWN) {
+            self.add(at, k, position);
+        }
+    }
+
+    // Whether the two numbers of each cell are these.
+    fn are_kept(&self, cells: usize, unknowns: &[u16], positions: &[u16]) -> bool
+        requires { (cells ≤ 1536) × (length unknowns.now ≡ cells) × (length positions.now ≡ cells) }
+        ensures { result ≡ (all_upto cells (λ c. nat_eq (slice_index unknowns.now c) (slice_index self.now.unknowns c))
+            && all_upto cells (λ c. nat_eq (slice_index positions.now c) (slice_index self.now.positions c))) }
+    {
+        unknowns == &self.unknowns[..cells] && positions == &self.positions[..cells]
+    }
 }
 
 // One pass over the first n flows, each placed once: whether keys repeat, each key noted in the index, and the two numbers of the cells.
 fn note_list(
-    l: Layout,
-    z: Sizes,
-    salt: u32,
-    h: Salted,
+    p: Placing,
     n: usize,
-    keys: &[u8],
-    flags: &[u8],
+    list: FoundRef<'_>,
     seen: &mut [u16],
-    unknowns: &mut [u16],
-    positions: &mut [u16],
+    numbers: &mut CellNumbers,
 ) -> bool
-    requires { Lays l × Ranged z × (n ≤ 3072) × (n * l.key ≤ length keys.now) × (n ≤ length flags.now) × Empty seen.old
-        × (length unknowns.old ≡ 1536) × (length positions.old ≡ 1536) × (h ≡ after_salt salt) }
-    ensures { (result ≡ keys_repeat l n keys.now) × (seen.new ≡ seen_upto l z salt n keys.now seen.old)
-        × (unknowns.new ≡ noted l z salt one_more n keys.now flags.now unknowns.old)
-        × (positions.new ≡ noted l z salt mixed_in n keys.now flags.now positions.old) }
+    requires { (n ≤ 3072) × (n * p.shape.layout.key ≤ length list.keys.now) × (n ≤ length list.flags.now) × Empty seen.old }
+    ensures { (result ≡ keys_repeat p.shape.layout n list.entry.keys.now)
+        × (seen.new ≡ seen_upto p.shape.layout p.shape.sizes p.salt n list.entry.keys.now seen.old)
+        × (numbers.new.unknowns ≡ noted p.shape.layout p.shape.sizes p.salt one_more n list.entry.keys.now list.entry.flags.now numbers.old.unknowns)
+        × (numbers.new.positions ≡ noted p.shape.layout p.shape.sizes p.salt mixed_in n list.entry.keys.now list.entry.flags.now numbers.old.positions) }
 {
+    let l = p.shape.layout;
     let mut repeat = false;
-    let mut i = 0;
-    while i < n {
+    for i in 0..n {
         let a = i * l.key;
         let e = a + l.key;
-        let at = hash::cells_of(l, z, salt, h, &keys[a..e]);
-        repeat = either(repeat, found::is_found(l, i, at, &keys[a..e], keys, seen));
+        let at = p.cells_of(&list.keys[a..e]);
+        let again = found::is_found(l, i, at, &list.keys[a..e], list.keys, seen);
+        repeat = repeat || again;
         index::link(seen, found::bucket(at), i);
-        note_flow(at, z.k, flags[i], i as u16, unknowns, positions);
-        i += 1;
+        numbers.add_unknown(at, p.shape.sizes.k, list.flags[i], i as u16);
     }
     repeat
 }
 
-// Whether the mark of every cell says if it is pure. Only a cell with FlowCount 1 is hashed.
-fn marks_right(
-    l: Layout,
-    z: Sizes,
-    salt: u32,
-    h: Salted,
-    xors: &[u8],
-    flows: &[u16],
-    marks: &[u64],
-) -> bool
-    requires { Lays l × Ranged z × (length xors.now ≡ table_cells l z * l.key) × (length flows.now ≡ table_cells l z)
-        × (length marks.now ≡ words_for (table_cells l z)) × (h ≡ after_salt salt) }
-    ensures { result ≡ marks_right l z salt xors.now flows.now marks.now }
+// Whether the mark of cell c says if it is pure. Only a cell with FlowCount 1 is hashed.
+fn mark_right(p: Placing, xors: &[u8], flows: &[u16], marks: &[u64], c: usize) -> bool
+    requires { (length xors.now ≡ table_cells p.shape.layout p.shape.sizes * p.shape.layout.key)
+        × (length flows.now ≡ table_cells p.shape.layout p.shape.sizes)
+        × (length marks.now ≡ words_for (table_cells p.shape.layout p.shape.sizes)) × (c < table_cells p.shape.layout p.shape.sizes) }
+    ensures { result ≡ agrees (marked marks.now c) (pure_at p.shape.layout p.shape.sizes p.salt xors.now flows.now c) }
 {
-    let s = layout::part_cells(l, z);
-    let mut c = 0;
-    while c < flows.len() {
-        let pure = table::is_pure(l, z, salt, h, c / s, xors, flows, c);
-        if !agree(marks::is_marked(marks, c), pure) {
-            return false;
-        }
-        c += 1;
-    }
-    true
+    let part = c / p.shape.part_cells();
+    marks::is_marked(marks, c) == table::is_pure(p, part, xors, flows, c)
+}
+
+// Whether the mark of every cell says if it is pure.
+fn marks_right(p: Placing, xors: &[u8], flows: &[u16], marks: &[u64]) -> bool
+    requires { (length xors.now ≡ table_cells p.shape.layout p.shape.sizes * p.shape.layout.key)
+        × (length flows.now ≡ table_cells p.shape.layout p.shape.sizes)
+        × (length marks.now ≡ words_for (table_cells p.shape.layout p.shape.sizes)) }
+    ensures { result ≡ marks_right p.shape.layout p.shape.sizes p.salt xors.now flows.now marks.now }
+{
+    (0..flows.len()).all(|c| mark_right(p, xors, flows, marks, c))
 }
 
 // Whether no bit past the cells' is set.
@@ -222,78 +174,57 @@ fn rest_clear(cells: usize, marks: &[u64]) -> bool
     ensures { result ≡ rest_clear cells marks.now }
 {
     let rest = marks.len() * 64 - cells;
-    let mut j = 0;
-    while j < rest {
-        if marks::is_marked(marks, cells + j) {
-            return false;
-        }
-        j += 1;
-    }
-    true
+    (0..rest).all(|j| !marks::is_marked(marks, cells + j))
 }
 
-// Whether numbers are the wanted ones in the first n places.
-fn same_numbers(n: usize, numbers: &[u16], wanted: &[u16]) -> bool
-    requires { (n ≤ length numbers.now) × (n ≤ length wanted.now) }
-    ensures { result ≡ all_upto n (λ c. nat_eq (slice_index numbers.now c) (slice_index wanted.now c)) }
+// Whether counts, marks and numbers are what cells and list give, n flows being listed.
+fn rest_right(
+    p: Placing,
+    n: usize,
+    table: TableRef<'_>,
+    list: FoundRef<'_>,
+    numbers: &CellNumbers,
+) -> bool
+    requires { Fit p.shape.layout p.shape.sizes (tab_seen table)
+        × Room p.shape.layout (2 * table_cells p.shape.layout p.shape.sizes) (list_seen list)
+        × (n ≤ 2 * table_cells p.shape.layout p.shape.sizes) }
+    ensures { result ≡ (not (zero_count n (list_seen list.entry))
+        && (numbers_in (table_cells p.shape.layout p.shape.sizes) n table.entry.flows.now (list_seen list.entry)
+        && (marks_right p.shape.layout p.shape.sizes p.salt table.entry.xors.now table.entry.flows.now table.entry.marks.now
+        && (rest_clear (table_cells p.shape.layout p.shape.sizes) table.entry.marks.now
+        && (all_upto (table_cells p.shape.layout p.shape.sizes) (λ c. nat_eq (slice_index table.entry.unknowns.now c) (slice_index numbers.now.unknowns c))
+        && all_upto (table_cells p.shape.layout p.shape.sizes) (λ c. nat_eq (slice_index table.entry.positions.now c) (slice_index numbers.now.positions c))))))) }
 {
-    let mut c = 0;
-    while c < n {
-        if numbers[c] != wanted[c] {
-            return false;
-        }
-        c += 1;
-    }
-    true
+    let cells = p.shape.table_cells();
+    !any_zero_count(n, list)
+        && numbers_in(n, table.flows, list)
+        && marks_right(p, table.xors, table.flows, table.marks)
+        && rest_clear(cells, table.marks)
+        && numbers.are_kept(cells, table.unknowns, table.positions)
 }
 
 // Whether the lent memory is a session. The index gets each listed key, for the calls that then look keys up.
 pub fn is_session_seen(
-    l: Layout,
-    z: Sizes,
-    salt: u32,
-    h: Salted,
+    p: Placing,
     n: usize,
-    xors: &[u8],
-    flows: &[u16],
-    unknowns: &[u16],
-    positions: &[u16],
-    marks: &[u64],
-    keys: &[u8],
-    counts: &[u32],
-    flags: &[u8],
+    table: TableRef<'_>,
+    list: FoundRef<'_>,
     seen: &mut [u16],
 ) -> bool
-    requires { Fit l z (tab xors.now flows.now unknowns.now positions.now marks.now)
-        × Room l (2 * table_cells l z) (records keys.now counts.now flags.now) × Empty seen.old × (h ≡ after_salt salt) }
-    ensures { (result ≡ is_session l z salt n
-        (tab xors.now flows.now unknowns.now positions.now marks.now)
-        (records keys.now counts.now flags.now))
-        × (seen.new ≡ seen_upto l z salt (if over_listed l z n then 0 else n) keys.now seen.old) }
+    requires { Fit p.shape.layout p.shape.sizes (tab_seen table)
+        × Room p.shape.layout (2 * table_cells p.shape.layout p.shape.sizes) (list_seen list) × Empty seen.old }
+    ensures { (result ≡ is_session p.shape.layout p.shape.sizes p.salt n (tab_seen table.entry) (list_seen list.entry))
+        × (seen.new ≡ seen_upto p.shape.layout p.shape.sizes p.salt (if over_listed p.shape.layout p.shape.sizes n then 0 else n)
+        list.entry.keys.now seen.old) }
 {
-    let cells = layout::table_cells(l, z);
+    let cells = p.shape.table_cells();
     if n > 2 * cells {
         return false;
     }
-    let mut us = [0u16; 1536];
-    let mut ps = [0u16; 1536];
-    if note_list(l, z, salt, h, n, keys, flags, seen, &mut us, &mut ps) {
-        return false;
-    }
-    if any_zero_count(n, counts, flags) {
-        return false;
-    }
-    if !numbers_in(n, flows, flags) {
-        return false;
-    }
-    if !marks_right(l, z, salt, h, xors, flows, marks) {
-        return false;
-    }
-    if !rest_clear(cells, marks) {
-        return false;
-    }
-    if !same_numbers(cells, unknowns, &us) {
-        return false;
-    }
-    same_numbers(cells, positions, &ps)
+    let mut numbers = CellNumbers {
+        unknowns: [0; 1536],
+        positions: [0; 1536],
+    };
+    let repeat = note_list(p, n, list, seen, &mut numbers);
+    !repeat && rest_right(p, n, table, list, &numbers)
 }

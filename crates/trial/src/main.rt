@@ -2,454 +2,356 @@
 // tests/independent answers the same requests by code of its own, and compares. tests/PROTOCOL.md has the requests.
 #![tactic(auto)]
 
-ghost use Rattle.std.specs.Prelude.{◌≤◌, length};
+ghost use Rattle.std.specs.Prelude.{◌≤◌};
+ghost use Rattle.trial.specs.declared.TheConstants.{FILTER, CELLS, IMAGE};
 
-use encoder::{Started, Taken};
-use hash::Fnv;
-use layout::Sizes;
-use packet::{Key, Keyed};
-use reading::Reading;
-use sealing::Sealed;
-use std::io;
+use hash::{Fnv, Placing};
+use layout::{Shape, Sizes};
+use packet::Key;
+use reading::Image;
+use source::Packets;
 use std::io::{Read, Write};
+use std::{fmt, io};
 
-// The longest payload, and room for each buffer of request 4.
+// The longest payload.
 const ROOM: usize = 65536;
 
-// Request 1: the hash of the payload.
-fn answer_hash(out: &mut impl Write, payload: &[u8]) -> io::Result<()> {
-    let state = Fnv::new().bytes(payload).state;
-    write!(out, "{state:08x}\n")
+// The longest buffers of request 4.
+const FILTER: usize = 8192;
+
+const CELLS: usize = 32768;
+
+const IMAGE: usize = 41984;
+
+// Why a request is not answered.
+#[derive(Clone, Copy)]
+enum Unanswered {
+    Op,
+    Length,
+    Mode,
 }
 
-// A key's bytes, and the key that those bytes give back.
-fn say_key(out: &mut impl Write, key: Key) -> io::Result<()> {
-    let bytes = packet::key_bytes(key);
-    telling::say_hex(out, &bytes)?;
-    let back = packet::key_from(&bytes);
-    telling::say_next(out, back.source as u64)?;
-    telling::say_next(out, back.destination as u64)?;
-    telling::say_next(out, back.sport as u64)?;
-    telling::say_next(out, back.dport as u64)?;
-    telling::say_next(out, back.protocol as u64)
-}
-
-// Request 2: the key of a packet.
-fn answer_key(out: &mut impl Write, payload: &[u8]) -> io::Result<()> {
-    let Keyed::Flow(key) = packet::key_of(payload) else {
-        return telling::say(out, b"6\n");
-    };
-    telling::say(out, b"0 ")?;
-    say_key(out, key)?;
-    telling::say(out, b"\n")
-}
-
-fn wide(b: u8) -> usize
-    ensures { result ≤ 255 }
-{
-    b as usize
-}
-
-// The sizes that four bytes give.
-fn sizes_at(payload: &[u8]) -> Sizes {
-    if payload.len() < 4 {
-        return Sizes {
-            kf: 0,
-            f: 0,
-            k: 0,
-            q: 0,
-        };
-    }
-    Sizes {
-        kf: wide(payload[0]),
-        f: wide(payload[1]),
-        k: wide(payload[2]),
-        q: wide(payload[3]),
+impl fmt::Display for Unanswered {
+    fn fmt<W: fmt::Write>(&self, f: &mut fmt::Formatter<W>) -> fmt::Result {
+        f.write_str(match self {
+            Unanswered::Op => "op",
+            Unanswered::Length => "length",
+            Unanswered::Mode => "mode",
+        })
     }
 }
 
-// The first n of the places.
-fn say_places(out: &mut impl Write, at: &[usize], n: usize) -> io::Result<()> {
-    let mut i = 0;
-    while i < n {
-        if at.len() <= i {
-            return Ok(());
+// What the buffers of request 4 hold before the calls, as a generator fills them.
+#[derive(Clone, Copy)]
+enum Mode {
+    // all of them random, and start is called
+    Started,
+    // all of them random
+    Random,
+    // filter and cells all 0
+    Zeros,
+    // filter and cells all 255
+    Ones,
+    // all of them random, but that the zero byte of every cell but one is 0
+    Spared,
+}
+
+impl TryFrom<u8> for Mode {
+    type Error = Unanswered;
+
+    fn try_from(number: u8) -> Result<Mode, Unanswered> {
+        match number {
+            0 => Ok(Mode::Started),
+            1 => Ok(Mode::Random),
+            2 => Ok(Mode::Zeros),
+            3 => Ok(Mode::Ones),
+            4 => Ok(Mode::Spared),
+            _ => Err(Unanswered::Mode),
         }
-        telling::say_next(out, at[i] as u64)?;
-        i += 1;
     }
-    Ok(())
+}
+
+// Whether whole packets, each after its length, make up all of the bytes.
+fn are_whole(bytes: &[u8]) -> bool {
+    let mut packets: Packets<0> = Packets { rest: bytes };
+    for _ in &mut packets {}
+    packets.rest.is_empty()
 }
 
 // Request 3: a key's cells and filter bits.
-fn answer_places(out: &mut impl Write, payload: &[u8]) -> io::Result<()> {
-    if payload.len() != 21 {
-        return telling::say(out, b"length\n");
-    }
-    let z = sizes_at(payload);
-    if !layout::in_range(z) {
-        return telling::say(out, b"3\n");
-    }
-    let salt = fields::long_at(payload, 4);
-    let from = 8;
-    let key = &payload[from..];
-    let h = hash::after_salt(salt);
-    let cells = hash::cells_of(layout::ipv4(), z, salt, h, key);
-    let bits = hash::bits_of(z, salt, h, key);
-    telling::say(out, b"0")?;
-    let c = cells.at;
-    let b = bits.at;
-    say_places(out, &c, z.k)?;
-    say_places(out, &b, z.kf)?;
-    telling::say(out, b"\n")
-}
-
-fn fill_with(s: &mut [u8], b: u8) {
-    let mut i = 0;
-    while i < s.len() {
-        s[i] = b;
-        i += 1;
-    }
-}
-
-fn start_number(a: Started) -> u64 {
-    match a {
-        Started::Done => 0,
-        Started::BadSizes => 3,
-        Started::BadRoom => 16,
-    }
-}
-
-fn take_number(a: Taken) -> u64 {
-    match a {
-        Taken::Done => 0,
-        Taken::BadSizes => 3,
-        Taken::BadRoom => 16,
-        Taken::NoKey => 6,
-        Taken::Full => 7,
-    }
-}
-
-fn seal_number(a: Sealed) -> u64 {
-    match a {
-        Sealed::Done => 0,
-        Sealed::BadSizes => 3,
-        Sealed::BadRoom => 16,
-        Sealed::BadZero => 3,
-    }
-}
-
-// The place after the packet at `at`, or 0 where there is no whole one.
-fn packet_end(p: &[u8], at: usize) -> usize
-    ensures { result ≤ length p.now }
-{
-    if p.len() < at {
-        return 0;
-    }
-    if p.len() - at < 2 {
-        return 0;
-    }
-    let n = wide(p[at]) * 256 + wide(p[at + 1]);
-    if p.len() - at - 2 < n {
-        return 0;
-    }
-    at + 2 + n
-}
-
-// Whether the payload holds whole packets from `at` on.
-fn packets_whole(p: &[u8]) -> bool {
-    let mut at = 23;
-    while at < p.len() {
-        let next = packet_end(p, at);
-        if next <= at {
-            return false;
-        }
-        at = next;
-    }
-    true
-}
-
-// Each packet from byte 23 on is given to the packet call.
-fn take_packets(
-    out: &mut impl Write,
+#[derive(Clone, Copy)]
+struct Places<'a> {
     z: Sizes,
     salt: u32,
-    p: &[u8],
-    filter: &mut [u8],
-    cells: &mut [u8],
-) -> io::Result<()> {
-    let mut at = 23;
-    while at < p.len() {
-        let next = packet_end(p, at);
-        if next < at + 2 {
-            return Ok(());
-        }
-        let from = at + 2;
-        let taken = encoder::packet(z, salt, filter, cells, &p[from..next]);
-        telling::say_next(out, take_number(taken))?;
-        at = next;
-    }
-    Ok(())
+    key: &'a [u8],
 }
 
-// A zero byte, of the cell at hand or not.
-fn zero_byte_of(place: usize, spared: u32, b: u8) -> u8 {
-    if place % 20 != 13 {
-        return b;
+impl<'a> TryFrom<&'a [u8]> for Places<'a> {
+    type Error = Unanswered;
+
+    fn try_from(payload: &'a [u8]) -> Result<Places<'a>, Unanswered> {
+        let payload: &[u8; 21] = payload.as_array().ok_or(Unanswered::Length)?;
+        Ok(Places {
+            z: source::sizes_in(payload),
+            salt: fields::long_at(payload, 4),
+            key: &payload[8..],
+        })
     }
-    if place / 20 == (spared as usize) {
-        return b;
-    }
-    0
 }
+
+// Request 4: an encoder's run, sealed, in buffers of these lengths.
+#[derive(Clone, Copy)]
+struct Run<'a> {
+    z: Sizes,
+    salt: u32,
+    slot: u32,
+    filter: usize,
+    cells: usize,
+    image: usize,
+    mode: Mode,
+    seed: u32,
+    packets: &'a [u8],
+    ghost fits: { (filter ≤ FILTER) × (cells ≤ CELLS) × (image ≤ IMAGE) },
+}
+
+impl<'a> TryFrom<&'a [u8]> for Run<'a> {
+    type Error = Unanswered;
+
+    fn try_from(payload: &'a [u8]) -> Result<Run<'a>, Unanswered> {
+        let (head, packets) = payload.split_first_chunk::<23>().ok_or(Unanswered::Length)?;
+        let filter = usize::from(fields::short_at(head, 12));
+        let cells = usize::from(fields::short_at(head, 14));
+        let image = usize::from(fields::short_at(head, 16));
+        if FILTER < filter || CELLS < cells || IMAGE < image || !are_whole(packets) {
+            return Err(Unanswered::Length);
+        }
+        Ok(Run {
+            z: source::sizes_in(head),
+            salt: fields::long_at(head, 4),
+            slot: fields::long_at(head, 8),
+            filter,
+            cells,
+            image,
+            mode: Mode::try_from(head[18])?,
+            seed: fields::long_at(head, 19),
+            packets,
+        })
+    }
+}
+
+// Request 5: an image, read as one of the slot that is wanted.
+#[derive(Clone, Copy)]
+struct Wanted<'a> {
+    slot: u32,
+    image: &'a [u8],
+}
+
+impl<'a> TryFrom<&'a [u8]> for Wanted<'a> {
+    type Error = Unanswered;
+
+    fn try_from(payload: &'a [u8]) -> Result<Wanted<'a>, Unanswered> {
+        let (slot, image) = payload.split_first_chunk::<4>().ok_or(Unanswered::Length)?;
+        if IMAGE < image.len() {
+            return Err(Unanswered::Length);
+        }
+        let slot = u32::from_be_bytes(*slot);
+        Ok(Wanted { slot, image })
+    }
+}
+
+// A request, as its number and its payload say it.
+#[derive(Clone, Copy)]
+enum Request<'a> {
+    Hash(&'a [u8]),
+    Key(&'a [u8]),
+    Places(Places<'a>),
+    Encoder(Run<'a>),
+    Read(Wanted<'a>),
+}
+
+impl<'a> TryFrom<(u8, &'a [u8])> for Request<'a> {
+    type Error = Unanswered;
+
+    fn try_from((number, payload): (u8, &'a [u8])) -> Result<Request<'a>, Unanswered> {
+        match number {
+            1 => Ok(Request::Hash(payload)),
+            2 => Ok(Request::Key(payload)),
+            3 => Ok(Request::Places(Places::try_from(payload)?)),
+            4 => Ok(Request::Encoder(Run::try_from(payload)?)),
+            5 => Ok(Request::Read(Wanted::try_from(payload)?)),
+            _ => Err(Unanswered::Op),
+        }
+    }
+}
+
+// ---- requests 1, 2, 3 and 5
+
+fn answer_hash(out: &mut impl Write, bytes: &[u8]) -> io::Result<()> {
+    let state = Fnv::new().bytes(bytes).state;
+    writeln!(out, "{state:08x}")
+}
+
+// A key's bytes, and the key that those bytes give back.
+fn answer_key(out: &mut impl Write, packet: &[u8]) -> io::Result<()> {
+    let Some(key) = packet::key_of(packet) else {
+        return writeln!(out, "6");
+    };
+    let bytes = <[u8; 13]>::from(key);
+    let back = Key::from(&bytes);
+    write!(out, "0 ")?;
+    telling::say_hex(out, &bytes)?;
+    writeln!(
+        out,
+        " {} {} {} {} {}",
+        back.source, back.destination, back.sport, back.dport, back.protocol
+    )
+}
+
+fn answer_places(out: &mut impl Write, asked: Places) -> io::Result<()> {
+    let Some(shape) = Shape::new(layout::ipv4(), asked.z) else {
+        return writeln!(out, "3");
+    };
+    let placing = Placing::new(shape, asked.salt);
+    let cells = placing.cells_of(asked.key);
+    let bits = placing.bits_of(asked.key);
+    let z = asked.z;
+    write!(out, "0")?;
+    for place in cells.at.iter().take(z.k).chain(bits.at.iter().take(z.kf)) {
+        write!(out, " {place}")?;
+    }
+    writeln!(out)
+}
+
+fn answer_read(out: &mut impl Write, wanted: Wanted) -> io::Result<()> {
+    match reading::read(wanted.image, wanted.slot) {
+        Ok(Image { sizes: z, salt }) => writeln!(out, "0 {} {} {} {} {salt}", z.kf, z.f, z.k, z.q),
+        Err(e) => writeln!(out, "{} {}", e.number(), e.block()),
+    }
+}
+
+// ---- request 4
 
 // Clears the zero byte of every cell but one.
 fn clear_zero_bytes(cells: &mut [u8], spared: u32) {
-    let mut i = 0;
-    while i < cells.len() {
-        cells[i] = zero_byte_of(i, spared, cells[i]);
-        i += 1;
-    }
-}
-
-// The buffers before the calls; the generator's state for the image.
-fn prepare(mode: u8, seed: u32, slot: u32, filter: &mut [u8], cells: &mut [u8]) -> u32 {
-    match mode {
-        4 => {
-            let x = telling::fill_random(filter, seed);
-            let y = telling::fill_random(cells, x);
-            clear_zero_bytes(cells, slot);
-            y
-        }
-        2 => {
-            fill_with(filter, 0);
-            fill_with(cells, 0);
-            seed
-        }
-        3 => {
-            fill_with(filter, 255);
-            fill_with(cells, 255);
-            seed
-        }
-        _ => {
-            let x = telling::fill_random(filter, seed);
-            telling::fill_random(cells, x)
+    let spared = spared as usize;
+    for (c, cell) in cells.chunks_mut(20).enumerate() {
+        if c != spared
+            && let Some(zero) = cell.get_mut(13)
+        {
+            *zero = 0;
         }
     }
 }
 
-// Starting, in mode 0 alone.
-fn start_at(
-    out: &mut impl Write,
-    mode: u8,
-    z: Sizes,
-    filter: &mut [u8],
-    cells: &mut [u8],
-) -> io::Result<()> {
-    if mode == 0 {
-        return telling::say_number(out, start_number(encoder::start(z, filter, cells)));
+impl Run<'_> {
+    // What filter and cells hold before the calls; the generator's state for the image.
+    fn fill(&self, filter: &mut [u8], cells: &mut [u8]) -> u32 {
+        match self.mode {
+            Mode::Started | Mode::Random => {
+                let x = telling::fill_random(filter, self.seed);
+                telling::fill_random(cells, x)
+            }
+            Mode::Zeros => {
+                filter.fill(0);
+                cells.fill(0);
+                self.seed
+            }
+            Mode::Ones => {
+                filter.fill(255);
+                cells.fill(255);
+                self.seed
+            }
+            Mode::Spared => {
+                let x = telling::fill_random(filter, self.seed);
+                let y = telling::fill_random(cells, x);
+                clear_zero_bytes(cells, self.slot);
+                y
+            }
+        }
     }
-    telling::say(out, b"-")
-}
 
-// The calls of request 4, with their answers.
-fn call_encoder(
-    out: &mut impl Write,
-    p: &[u8],
-    filter: &mut [u8],
-    cells: &mut [u8],
-    image: &mut [u8],
-) -> io::Result<()> {
-    if p.len() < 23 {
-        return Ok(());
+    // The calls, with their answers. The three buffers are no struct: a loan in it through a method is not covered by the borrow checker.
+    fn call(
+        &self,
+        out: &mut impl Write,
+        filter: &mut [u8],
+        cells: &mut [u8],
+        image: &mut [u8],
+    ) -> io::Result<()> {
+        match self.mode {
+            Mode::Started => {
+                let refusal = encoder::start(self.z, filter, cells).err();
+                write!(out, "{}", refusal.map_or(0, |e| e.number()))?;
+            }
+            _ => write!(out, "-")?,
+        }
+        let packets: Packets<0> = Packets { rest: self.packets };
+        for (_, packet) in packets {
+            let refusal = encoder::packet(self.z, self.salt, filter, cells, packet).err();
+            write!(out, " {}", refusal.map_or(0, |e| e.number()))?;
+        }
+        let refusal = sealing::seal(self.z, self.salt, self.slot, filter, cells, image).err();
+        write!(out, " {}", refusal.map_or(0, |e| e.number()))
     }
-    let z = sizes_at(p);
-    let salt = fields::long_at(p, 4);
-    let slot = fields::long_at(p, 8);
-    start_at(out, p[18], z, filter, cells)?;
-    take_packets(out, z, salt, p, filter, cells)?;
-    let sealed = sealing::seal(z, salt, slot, filter, cells, image);
-    telling::say_next(out, seal_number(sealed))
-}
 
-// Request 4 in buffers of the lengths asked for: what they hold before, the calls, what they hold after.
-fn run_encoder(
-    out: &mut impl Write,
-    p: &[u8],
-    filter: &mut [u8],
-    cells: &mut [u8],
-    image: &mut [u8],
-) -> io::Result<()> {
-    if p.len() < 23 {
-        return Ok(());
-    }
-    let x = prepare(
-        p[18],
-        fields::long_at(p, 19),
-        fields::long_at(p, 8),
-        filter,
-        cells,
-    );
-    telling::fill_random(image, x);
-    call_encoder(out, p, filter, cells, image)?;
-    telling::say_buffer(out, filter)?;
-    telling::say_buffer(out, cells)?;
-    telling::say_buffer(out, image)?;
-    telling::say(out, b"\n")
-}
-
-fn lend_image(
-    out: &mut impl Write,
-    p: &[u8],
-    filter: &mut [u8],
-    cells: &mut [u8],
-    room: &mut [u8],
-    n: usize,
-) -> io::Result<()> {
-    if n <= room.len() {
-        run_encoder(out, p, filter, cells, &mut room[..n])?;
-    }
-    Ok(())
-}
-
-fn lend_cells(
-    out: &mut impl Write,
-    p: &[u8],
-    filter: &mut [u8],
-    room: &mut [u8],
-    n: usize,
-    image: usize,
-) -> io::Result<()> {
-    if n <= room.len() {
-        let mut next = [0u8; ROOM];
-        lend_image(out, p, filter, &mut room[..n], &mut next, image)?;
-    }
-    Ok(())
-}
-
-fn lend_filter(
-    out: &mut impl Write,
-    p: &[u8],
-    room: &mut [u8],
-    n: usize,
-    cells: usize,
-    image: usize,
-) -> io::Result<()> {
-    if n <= room.len() {
-        let mut next = [0u8; ROOM];
-        lend_cells(out, p, &mut room[..n], &mut next, cells, image)?;
-    }
-    Ok(())
-}
-
-// Request 4: an encoder's run, sealed.
-fn answer_encoder(out: &mut impl Write, p: &[u8]) -> io::Result<()> {
-    if p.len() < 23 {
-        return telling::say(out, b"length\n");
-    }
-    let filter = fields::short_at(p, 12) as usize;
-    let cells = fields::short_at(p, 14) as usize;
-    let image = fields::short_at(p, 16) as usize;
-    if 8192 < filter || 32768 < cells || 41984 < image || !packets_whole(p) {
-        return telling::say(out, b"length\n");
-    }
-    if 4 < p[18] {
-        return telling::say(out, b"mode\n");
-    }
-    let mut room = [0u8; ROOM];
-    lend_filter(out, p, &mut room, filter, cells, image)
-}
-
-fn say_refusal(out: &mut impl Write, number: u64, block: usize) -> io::Result<()> {
-    telling::say_number(out, number)?;
-    telling::say_next(out, block as u64)
-}
-
-fn say_image(out: &mut impl Write, z: Sizes, salt: u32) -> io::Result<()> {
-    telling::say(out, b"0")?;
-    telling::say_next(out, z.kf as u64)?;
-    telling::say_next(out, z.f as u64)?;
-    telling::say_next(out, z.k as u64)?;
-    telling::say_next(out, z.q as u64)?;
-    telling::say_next(out, salt as u64)
-}
-
-// Request 5: an image is read.
-fn answer_read(out: &mut impl Write, p: &[u8]) -> io::Result<()> {
-    if p.len() < 4 {
-        return telling::say(out, b"length\n");
-    }
-    if 41988 < p.len() {
-        return telling::say(out, b"length\n");
-    }
-    let slot = fields::long_at(p, 0);
-    let from = 4;
-    match reading::read(&p[from..], slot) {
-        Reading::Image(z, salt) => say_image(out, z, salt)?,
-        Reading::Length => say_refusal(out, 1, 0)?,
-        Reading::Check(n) => say_refusal(out, 2, n)?,
-        Reading::Form(n) => say_refusal(out, 3, n)?,
-        Reading::Mixed(n) => say_refusal(out, 4, n)?,
-        Reading::Stale => say_refusal(out, 5, 0)?,
-    }
-    telling::say(out, b"\n")
-}
-
-fn answer(out: &mut impl Write, op: u8, payload: &[u8]) -> io::Result<()> {
-    match op {
-        1 => answer_hash(out, payload),
-        2 => answer_key(out, payload),
-        3 => answer_places(out, payload),
-        4 => answer_encoder(out, payload),
-        5 => answer_read(out, payload),
-        _ => telling::say(out, b"op\n"),
+    // In buffers of the lengths asked for: what they hold before, the calls, what they hold after.
+    fn answer(&self, out: &mut impl Write) -> io::Result<()> {
+        let (mut filter, mut cells, mut image) = ([0u8; FILTER], [0u8; CELLS], [0u8; IMAGE]);
+        let filter = &mut filter[..self.filter];
+        let cells = &mut cells[..self.cells];
+        let image = &mut image[..self.image];
+        let x = self.fill(filter, cells);
+        telling::fill_random(image, x);
+        self.call(out, filter, cells, image)?;
+        telling::say_buffer(out, filter)?;
+        telling::say_buffer(out, cells)?;
+        telling::say_buffer(out, image)?;
+        writeln!(out)
     }
 }
 
-// A payload is read and answered; whether there was a whole one.
-fn serve_payload(
+// ---- the program
+
+fn answer(out: &mut impl Write, number: u8, payload: &[u8]) -> io::Result<()> {
+    match Request::try_from((number, payload)) {
+        Ok(Request::Hash(bytes)) => answer_hash(out, bytes),
+        Ok(Request::Key(packet)) => answer_key(out, packet),
+        Ok(Request::Places(asked)) => answer_places(out, asked),
+        Ok(Request::Encoder(run)) => run.answer(out),
+        Ok(Request::Read(wanted)) => answer_read(out, wanted),
+        Err(unanswered) => writeln!(out, "{unanswered}"),
+    }
+}
+
+// The next request's number and payload, if there is a whole one.
+fn next_request<'a>(
     input: &mut impl Read,
-    out: &mut impl Write,
-    op: u8,
-    room: &mut [u8],
-) -> io::Result<bool> {
-    if source::read_full(input, room)? < room.len() {
-        return Ok(false);
-    }
-    answer(out, op, room)?;
-    Ok(true)
-}
-
-fn serve_within(
-    input: &mut impl Read,
-    out: &mut impl Write,
-    op: u8,
-    n: usize,
-    room: &mut [u8],
-) -> io::Result<bool> {
-    if room.len() < n {
-        return Ok(false);
-    }
-    serve_payload(input, out, op, &mut room[..n])
-}
-
-// One request; whether there was a whole one.
-fn serve(input: &mut impl Read, out: &mut impl Write) -> io::Result<bool> {
+    room: &'a mut [u8],
+) -> io::Result<Option<(u8, &'a [u8])>> {
     let mut head = [0u8; 4];
     if source::read_full(input, &mut head)? < 4 {
-        return Ok(false);
+        return Ok(None);
     }
-    let n = wide(head[1]) * 65536 + wide(head[2]) * 256 + wide(head[3]);
-    let mut room = [0u8; ROOM];
-    serve_within(input, out, head[0], n, &mut room)
+    let [number, high, middle, low] = head;
+    let length = u32::from_be_bytes([0, high, middle, low]) as usize;
+    let Some(payload) = room.get_mut(..length) else {
+        return Ok(None);
+    };
+    if source::read_full(input, payload)? < length {
+        return Ok(None);
+    }
+    Ok(Some((number, payload)))
 }
 
 fn main(rt: HostRuntime) -> io::Result<()> {
     let mut input = rt.stdin();
     let mut out = rt.stdout();
-    let mut turns = u64::MAX;
-    while turns > 0 && serve(&mut input, &mut out)? {
-        turns -= 1;
+    let mut room = [0u8; ROOM];
+    for _ in 0..u64::MAX {
+        let Some((number, payload)) = next_request(&mut input, &mut room)? else {
+            break;
+        };
+        answer(&mut out, number, payload)?;
     }
     Ok(())
 }

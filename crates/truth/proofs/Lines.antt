@@ -5,6 +5,8 @@ use mathlib.Core.List.{List, [], ◌∷◌, ◌++◌, append-nil, append_assoc}
 use mathlib.Core.Logic.{inl, inr}
 use mathlib.Core.Option.{Option, some, none}
 use Prim.Native.Nat.{ℕ, zero, suc}
+use Rattle.std.proofs.Common.{Some}
+use Rattle.std.specs.Bool.{then_some}
 use Rattle.laws.specs.Upto.{join_upto, list_upto}
 use Rattle.laws.proofs.Bools.{split, clash}
 use Rattle.layout.specs.Sizes.{ipv4_layout}
@@ -77,5 +79,5 @@ unfolding CountsRight lines_of flow_lines keys_of
 right-lines packets [] e right = refl
 right-lines packets (r ∷ rs) e right =
     let known = all_known r rs e in
-    ap₂ (λ b c. flow_line (key_from r.key) b c ++ lines_of rs) known.0 (right.0 known.0)
-    ∙ ap (λ s. flow_line (key_from r.key) true (packets r.key) ++ s) (right-lines packets rs known.1 right.1)
+    ap₂ (λ b c. flow_line (key_from r.key) (then_some b c) ++ lines_of rs) known.0 (right.0 known.0)
+    ∙ ap (λ s. flow_line (key_from r.key) (Some (packets r.key)) ++ s) (right-lines packets rs known.1 right.1)

@@ -7,6 +7,7 @@ use Prim.Native.Nat.{ℕ, ◌-◌, ◌*◌, ◌^◌, ◌<◌}
 use native.Mathlib.Omega.{arith}
 use lib.Dec.{ltb}
 use lib.ListN.{length, replicate, length-replicate}
+use Rattle.std.specs.Prelude.{Result, Ok, Err}
 use Rattle.laws.specs.BigEndian.{bytes_of}
 use Rattle.laws.proofs.Bools.{split, clash}
 use Rattle.laws.proofs.Lowest.{number_same, number-zero}
@@ -16,7 +17,6 @@ use Rattle.layout.specs.declared.Sizes.{Sizes}
 use Rattle.layout.specs.Sizes.{ipv4_layout, table_cells, blocks}
 use Rattle.layout.proofs.Ranges.{lays-ipv4}
 use Rattle.hash.specs.Places.{has_cell}
-use Rattle.sealing.specs.declared.Sealed.TheVariants.{Done}
 use Rattle.block.specs.Block.{image_of}
 use Rattle.sealing.specs.Seal.{Sealable, Sealing, seal_of, sealing}
 use Rattle.sealing.proofs.Answers.{seal-done}
@@ -29,8 +29,9 @@ use Rattle.room.specs.Memory.{Memory}
 use Rattle.summary.specs.declared.Report.{Report}
 use Rattle.summary.specs.declared.State.TheVariants.{Stray}
 use Rattle.summary.specs.Report.{state_of, nothing_left, counted_in, report_of}
-use Rattle.session.specs.declared.Settled.{Settled}
-use Rattle.session.specs.declared.Settled.TheVariants as settled
+use Rattle.session.specs.declared.SettleError.{SettleError}
+use Rattle.session.specs.declared.SessionError.TheVariants.{NotSession, BadRoom}
+use Rattle.session.specs.declared.SettleError.TheVariants as settled
 use Rattle.session.specs.Calls.{settle_of, settle_number, report_in}
 use Rattle.lines.specs.Text.{head_line}
 use Rattle.printing.specs.Print.{listed_lines, room_lines, settled_lines, session_lines, read_lines, image_lines, printed}
@@ -60,19 +61,19 @@ use Rattle.truth.specs.Page.{lines_of}
 use Rattle.truth.proofs.Lines.{lines-of, counts-right, right-lines}
 
 -- answer 0 lists flows
-settled-listed : (slot salt : ℕ) (numbers : Session) (m : Memory) (a : Settled) → settle_number a ≡ 0
+settled-listed : (slot salt : ℕ) (numbers : Session) (m : Memory) (a : Result ℕ SettleError) → settle_number a ≡ 0
     → settled_lines slot salt m a ≡ room_lines slot salt (after_settle numbers a).listed m
 unfolding settled_lines
-settled-listed slot salt numbers m (settled.Done n) e = refl
-settled-listed slot salt numbers m (settled.Damaged n c) e = absurd (omega arith)
-settled-listed slot salt numbers m settled.NotSession e = absurd (omega arith)
-settled-listed slot salt numbers m settled.BadRoom e = absurd (omega arith)
+settled-listed slot salt numbers m (Ok n) e = refl
+settled-listed slot salt numbers m (Err (settled.Damaged d)) e = absurd (omega arith)
+settled-listed slot salt numbers m (Err (settled.Session NotSession)) e = absurd (omega arith)
+settled-listed slot salt numbers m (Err (settled.Session BadRoom)) e = absurd (omega arith)
 
-pub same-sizes : (numbers : Session) (a : Settled) → (after_settle numbers a).sizes ≡ numbers.sizes
-same-sizes numbers (settled.Done n) = refl
-same-sizes numbers (settled.Damaged n c) = refl
-same-sizes numbers settled.NotSession = refl
-same-sizes numbers settled.BadRoom = refl
+pub same-sizes : (numbers : Session) (a : Result ℕ SettleError) → (after_settle numbers a).sizes ≡ numbers.sizes
+same-sizes numbers (Ok n) = refl
+same-sizes numbers (Err (settled.Damaged d)) = refl
+same-sizes numbers (Err (settled.Session NotSession)) = refl
+same-sizes numbers (Err (settled.Session BadRoom)) = refl
 
 stop-0 : (a : Stop) → stop_number a ≡ 0 → a ≡ theory.settled
 stop-0 theory.settled e = refl
@@ -113,7 +114,7 @@ report-path : {a b : Report} → a.listed ≡ b.listed → a.counted ≡ b.count
 report-path p q r t = λ i. record { listed = p i; counted = q i; opens = r i; state = t i }
 
 module _ (z : Sizes) (salt slot : ℕ) (salt-fits : salt < 2 ^ 32) (slot-fits : slot < 2 ^ 32) (packets : List (List ℕ)) (image_room image : List ℕ)
-    (seals : let m = encoder.packets_run z salt packets in seal_of ipv4_layout z salt slot m.filter m.cells image_room ≡ sealing Done image)
+    (seals : let m = encoder.packets_run z salt packets in seal_of ipv4_layout z salt slot m.filter m.cells image_room ≡ sealing (Ok tt) image)
     (clean : NeverMistaken (encoder.taken_in z salt packets)) where
   abbrev l : Layout
   l = ipv4_layout
@@ -253,7 +254,7 @@ prints-truth z salt slot filter cells packets image made =
     let clears = start-clears ipv4_layout z filter cells made.starts in
     let fresh : start_leaves z filter cells ≡ encoder.cleared ipv4_layout z = ap₂ (λ f c. record { filter = f; cells = c }) clears.0 clears.1 in
     subst (λ (x : encoder.Memory). (let m = encoder.offer_all (encoder.packet_call z salt) packets x in
-    seal_of ipv4_layout z salt slot m.filter m.cells made.image_room ≡ sealing Done image)
+    seal_of ipv4_layout z salt slot m.filter m.cells made.image_room ≡ sealing (Ok tt) image)
     → NeverMistaken (taken_since z salt x packets) → Prints z salt slot (taken_since z salt x packets) (printed (bytes_of 4 slot ++ image)))
     (sym fresh)
     (prints-run z salt slot made.salt-fits made.slot-fits packets made.image_room image) made.seals

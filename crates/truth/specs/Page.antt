@@ -1,5 +1,6 @@
 -- The text of a report and a list: 01 'Printing program'.
 use Rattle.std.specs.Prelude.{List, [], ◌∷◌, ◌++◌, ℕ}
+use Rattle.std.specs.Bool.{then_some}
 use Rattle.packet.specs.Key.{key_from}
 use Rattle.summary.specs.declared.Report.{Report}
 use Rattle.summary.specs.declared.State.{State}
@@ -10,7 +11,7 @@ use Rattle.theory.specs.Report as theory
 
 -- "per listed flow, in list order: .., count or `?`"
 abbrev pub line_of : Record → List ℕ
-line_of r = flow_line (key_from r.key) r.known r.count
+line_of r = flow_line (key_from r.key) (then_some r.known r.count)
 
 unfoldable pub lines_of : List Record → List ℕ
 lines_of [] = []

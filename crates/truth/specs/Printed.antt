@@ -1,5 +1,5 @@
 -- What is printed of the packets taken: demand 2 without hand-overs, in the words of 01 'Printing program'.
-use Rattle.std.specs.Prelude.{◌≡◌, true, not, List, [], ◌∷◌, ◌++◌, ℕ, ◌^◌, ◌<◌, ltb, length}
+use Rattle.std.specs.Prelude.{◌≡◌, true, not, Some, List, [], ◌∷◌, ◌++◌, ℕ, ◌^◌, ◌<◌, ltb, length, Ok}
 use Rattle.laws.specs.Upto.{number_upto}
 use Rattle.layout.specs.declared.Sizes.{Sizes}
 use Rattle.layout.specs.Sizes.{ipv4_layout, table_cells}
@@ -7,7 +7,6 @@ use Rattle.hash.specs.Places.{has_cell}
 use Rattle.packet.specs.Key.{key_from}
 use Rattle.encoder.specs.Encoder.{start_of, start_number}
 use Rattle.meaning.specs.Meaning.{Memory, offer_all, taken_of, packet_call, packet_key}
-use Rattle.sealing.specs.declared.Sealed.TheVariants.{Done}
 use Rattle.sealing.specs.Seal.{seal_of, sealing}
 use Rattle.summary.specs.declared.Report.{Report}
 use Rattle.summary.specs.Report.{state_of}
@@ -32,13 +31,13 @@ pub record Written (z : Sizes) (salt slot : ℕ) (filter cells : List ℕ) (pack
   pub starts : start_number (start_of ipv4_layout z filter cells).answer ≡ 0
   pub image_room : List ℕ
   pub seals : let m = offer_all (packet_call z salt) packets (start_leaves z filter cells) in
-      seal_of ipv4_layout z salt slot m.filter m.cells image_room ≡ sealing Done image
+      seal_of ipv4_layout z salt slot m.filter m.cells image_room ≡ sealing (Ok tt) image
 
 -- ---- what is printed
 -- 01 'Printing program': "per listed flow, in list order: .. count": these flows, each with its packets taken
 unfoldable pub flow_lines : (Key → ℕ) → List Key → List ℕ
 flow_lines packets [] = []
-flow_lines packets (k ∷ later) = flow_line (key_from k) true (packets k) ++ flow_lines packets later
+flow_lines packets (k ∷ later) = flow_line (key_from k) (Some (packets k)) ++ flow_lines packets later
 
 -- 01 'A session', Report: "open (cells with FlowCount above 0)": the cells of the table that have a flow of F that is not listed
 unfoldable pub opens_left : Sizes → ℕ → List Key → List Key → ℕ

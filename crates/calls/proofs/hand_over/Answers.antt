@@ -1,41 +1,27 @@
 -- `calls::hand_over` meets its contract: the list is taken apart, the session's call runs over the numbers, and the list is put together.
+use mathlib.Core.Path.{ap}
+use borrow.Author.Rules.{rules}
+use Rattle.std.specs.Prelude.{Err}
 use Rattle.list.specs.Records.{records}
 use Rattle.table.specs.Table.{tab}
 use Rattle.room.specs.Memory.{memory}
-use Rattle.session.specs.declared.HandOver.TheVariants as over
-use Rattle.calls.specs.Calls.{Arrays, lent, handing}
+use Rattle.session.specs.declared.SessionError.TheVariants.{NotSession, BadRoom}
+use Rattle.session.specs.declared.HandOverError.TheVariants as over
+use Rattle.session.specs.Calls.{Handing}
+use Rattle.calls.specs.Calls.{lent, ran, handing, first, over}
 use Rattle.calls.proofs.Misfit.{refusal, hand-misfit}
-use Rattle.calls.proofs.Rebuilt.{inside-zeros, few-taken, inside, arrays-first, arrays-kept, calls-records}
+use Rattle.calls.proofs.Rebuilt.{calls-records}
 use Rattle.calls.proofs.hand_over.Goals as goal
 
-pub take_apart-requires : goal.take_apart-requires
-take_apart-requires c = inside-zeros 3072 c.args.list.now c.length_of-n.ensures c.taken_of-m.ensures
-
-pub hand_over_first-r-requires : goal.hand_over_first-r-requires
-hand_over_first-r-requires c =
-    let now = records c.take_apart.new.keys c.take_apart.new.counts c.take_apart.new.flags in (
-      few-taken 3072 c.args.list.now c.length_of-n.ensures c.taken_of-m.ensures,
-      arrays-first 3072 now c.take_apart.auto.keys c.take_apart.auto.counts c.take_apart.auto.flags,
-    )
-
-pub put_back-requires : goal.put_back-requires
-put_back-requires c =
-    let now = records c.take_apart.new.keys c.take_apart.new.counts c.take_apart.new.flags in
-    let after = records c.hand_over_first-r.new.keys c.hand_over_first-r.new.counts c.hand_over_first-r.new.flags in
-    let arrays : Arrays 3072 now = arrays-first 3072 now c.take_apart.auto.keys c.take_apart.auto.counts c.take_apart.auto.flags in
-    let kept : Arrays 3072 after = arrays-kept 3072 now after arrays c.hand_over_first-r.auto.keys c.hand_over_first-r.auto.counts c.hand_over_first-r.auto.flags in
-    inside 3072 c.args.list.now c.length_of-n.ensures c.taken_of-m.ensures kept
-
 pub returns : goal.returns
+unfolding first over
 returns c =
     let a = c.args in
-    let b = c.hand_over_first-r.new in
-    let now = records c.take_apart.new.keys c.take_apart.new.counts c.take_apart.new.flags in
-    let after = records b.keys b.counts b.flags in
-    let arrays : Arrays 3072 now = arrays-first 3072 now c.take_apart.auto.keys c.take_apart.auto.counts c.take_apart.auto.flags in
-    let kept : Arrays 3072 after = arrays-kept 3072 now after arrays c.hand_over_first-r.auto.keys c.hand_over_first-r.auto.counts c.hand_over_first-r.auto.flags in
-    calls-records 3072 (handing a.s a.key) (refusal a.s over.NotSession over.BadRoom) (hand-misfit a.s a.key)
+    let b = c.hand_over-answer.new in
+    let now = c.take_apart.new in
+    calls-records 3072 (handing a.s a.key) (refusal a.s (Err (over.Session NotSession)) (Err (over.Session BadRoom))) (hand-misfit a.s a.key)
     (lent a.filter.now (tab a.xors.now a.flows.now a.unknowns.now a.positions.now a.marks.now) a.packets.now a.list.now)
-    c.length_of-n.ensures c.taken_of-m.ensures now arrays c.take_apart.ensures c.hand_over_first-r.result
-    (memory a.filter.now (tab b.xors b.flows b.unknowns b.positions b.marks) a.packets.now after) c.put_back.new.list kept
-    c.hand_over_first-r.ensures c.put_back.ensures
+    c.length_of.ensures c.taken_of-n.ensures.value (records now.keys now.counts now.flags) c.take_apart.ensures c.hand_over-answer.result
+    (memory a.filter.now (tab b.xors b.flows b.unknowns b.positions b.marks) a.packets.now (records b.keys b.counts b.flags)) c.put_back.new.list
+    (search rules)
+    (ap (λ (x : Handing). ran x.answer x.room) c.hand_over-answer.ensures) c.put_back.ensures

@@ -3,29 +3,19 @@ use mathlib.Core.Path.{ap, ◌∙◌}
 use Rattle.layout.specs.declared.Sizes.{Sizes}
 use Rattle.encoder.specs.Encoder.{Taking, take_number}
 use Rattle.elderflute.specs.Flowset.{working, packet_call}
-use borrow.Author.Rules.{rules}
 use Rattle.elderflute.proofs.elderflute_packet.Goals as goal
 
-pub sizes_of-requires : goal.sizes_of-requires
-sizes_of-requires c = search rules
-
-pub packet-requires : goal.packet-requires
-packet-requires c = search rules
-
-pub take_number-requires : goal.take_number-requires
-take_number-requires c = search rules
-
-pub shape_of-filter : goal.shape_of-filter
-shape_of-filter c = search rules
-
-pub shape_of-cells : goal.shape_of-cells
-shape_of-cells c = search rules
-
-pub returns : goal.returns
+pub returns-in-Ok : goal.returns-in-Ok
 unfolding packet_call
-returns c =
+returns-in-Ok c =
     let a = c.args in
-    let e = c.packet in
-    ap (λ n. working n e.new.filter e.new.cells) c.take_number.ensures
-    ∙ ap (λ (x : Taking). working (take_number x.answer) x.filter x.cells) e.ensures
+    ap (λ (x : Taking). working (take_number x.answer) x.filter x.cells) c.in-Ok.ensures
+    ∙ ap (λ (z : Sizes). packet_call z a.salt a.packet.now a.filter.now a.cells.now) c.sizes_of.ensures
+
+pub returns-in-Err : goal.returns-in-Err
+unfolding packet_call
+returns-in-Err c =
+    let a = c.args in
+    ap (λ n. working n c.packet.new.filter c.packet.new.cells) c.number.ensures
+    ∙ ap (λ (x : Taking). working (take_number x.answer) x.filter x.cells) c.in-Err.ensures
     ∙ ap (λ (z : Sizes). packet_call z a.salt a.packet.now a.filter.now a.cells.now) c.sizes_of.ensures

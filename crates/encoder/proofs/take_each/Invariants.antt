@@ -1,12 +1,7 @@
--- `encoder::take_each` meets its contract.
-use mathlib.Core.Path.{◌≡◌}
-use Prim.Native.Nat.{◌≤◌, ◌-◌}
-use lib.ListN.{length}
+-- The packet is in the cells below the index.
+use Rattle.std.proofs.Common.{◌≡◌}
 use Rattle.encoder.specs.Loops.{take_each}
 use Rattle.encoder.proofs.take_each.Given as goal
 
-abbrev pub invariant-loop-i : goal.invariant-loop-i
-invariant-loop-i l = (l.i ≤ l.k) × (length l.cells ≡ length l.initial.cells) × (l.cells ≡ take_each l.l l.new l.key l.at.at l.i l.initial.cells)
-
-abbrev pub decreases-loop-i : goal.decreases-loop-i
-decreases-loop-i l = l.k - l.i
+abbrev pub invariant-loop-c : goal.invariant-loop-c
+invariant-loop-c l = l.cells ≡ take_each l.fn.shape.layout l.fn.new l.fn.key l.fn.at.at l.c-index l.fn.cells

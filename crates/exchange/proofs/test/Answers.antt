@@ -1,107 +1,76 @@
-use mathlib.Core.Path.{refl, sym, ap, subst, ◌∙◌}
-use borrow.Author.Tests.{eq-eqb, ne_eqb}
+-- `exchange::test` meets its contract.
+use Rattle.std.proofs.Common.{refl, sym, subst, eq-eqb, ne_eqb}
 use Rattle.laws.proofs.Bools.{held, failed}
-use Rattle.layout.proofs.Ranges.{ranged}
-use Rattle.list.specs.Records.{records}
-use Rattle.table.specs.Table.{tab}
-use Rattle.room.specs.Memory.{memory}
-use Rattle.parts.specs.Areas.{Near, place_after}
-use Rattle.exchange.specs.declared.Tested.TheVariants as tested
-use Rattle.exchange.proofs.Testing.{not-passed, near-origin, near-seam, sizes-a, sizes-b, room-bad, need-a, not_a, need-b, not-b, other-slot, all-passed, index-both}
+use Rattle.room.specs.Seen.{memory_seen}
+use Rattle.parts.specs.Places.{Near}
+use Rattle.exchange.proofs.Passed.{seam-at}
+use Rattle.exchange.proofs.Testing.{near-seam, room-bad, reaches, need-a, need-b, not_a, not-b, other-slot, all-passed, index-a, index-b}
 use Rattle.exchange.proofs.test.Goals as goal
 
-pub in_range-requires : goal.in_range-requires
-in_range-requires c = tt
+pub after-requires : goal.after-requires
+after-requires c =
+    let p = c.args.p.shape in
+    subst Near (sym (seam-at p.layout p.sizes c.after-seam.ensures c.origin.ensures)) (near-seam p.layout p.sizes p.lays p.ranged)
 
-pub returns-then-not-in_range : goal.returns-then-not-in_range
-returns-then-not-in_range c =
-    let s = c in
-    let a = s.args in
-    let m = (memory a.filter.now (tab a.xors.now a.flows.now a.unknowns.now a.positions.now a.marks.now) a.packets.now (records a.keys.now a.counts.now a.flags.now)) in
-    (sizes-a a.l a.s a.t m s.requires.0 (failed c.in_range.ensures c.if-not-in_range.true), not-passed {r = tested.NotSession} refl)
+pub returns-then-not-areas_fit-clause-answer : goal.returns-then-not-areas_fit-clause-answer
+returns-then-not-areas_fit-clause-answer c =
+    let a = c.args in
+    room-bad a.p a.q a.s a.t (memory_seen a.room) c.requires.0 c.requires.1 c.origin.ensures c.after-seam.ensures c.after.ensures (failed c.areas_fit.ensures c.if-not-areas_fit.true)
 
-pub in_range-requires-2 : goal.in_range-requires-2
-in_range-requires-2 c = tt
+pub split_room-requires : goal.split_room-requires
+split_room-requires c =
+    let a = c.args in
+    reaches a.p a.q a.s a.t (memory_seen a.room) c.requires.0 c.requires.1 c.origin.ensures c.after-seam.ensures c.after.ensures (held c.areas_fit.ensures c.if-not-areas_fit.false)
 
-pub returns-then-not-in_range-2 : goal.returns-then-not-in_range-2
-returns-then-not-in_range-2 c =
-    let s = c in
-    let a = s.args in
-    let m = (memory a.filter.now (tab a.xors.now a.flows.now a.unknowns.now a.positions.now a.marks.now) a.packets.now (records a.keys.now a.counts.now a.flags.now)) in
-    (sizes-b a.l a.s a.t m s.requires.0 (failed c.in_range-2.ensures c.if-not-in_range-2.true), not-passed {r = tested.NotSession} refl)
+pub is_session_seen-requires : goal.is_session_seen-requires
+is_session_seen-requires c =
+    let a = c.args in
+    need-a a.p a.q a.s a.t (memory_seen a.room) c.requires.0 c.requires.1 c.origin.ensures c.after-seam.ensures c.after.ensures (held c.areas_fit.ensures c.if-not-areas_fit.false)
+    c.split_room.ensures.first c.split_room.ensures.second c.requires.2
 
-pub origin-o-requires : goal.origin-o-requires
-origin-o-requires c = tt
+pub is_session_seen-requires-2 : goal.is_session_seen-requires-2
+is_session_seen-requires-2 c =
+    let a = c.args in
+    need-b a.p a.q a.s a.t (memory_seen a.room) c.requires.0 c.requires.1 c.origin.ensures c.after-seam.ensures c.after.ensures (held c.areas_fit.ensures c.if-not-areas_fit.false)
+    c.split_room.ensures.first c.split_room.ensures.second c.requires.3
 
-pub place_after-p-requires : goal.place_after-p-requires
-place_after-p-requires c =
-    let s = c in
-    let a = s.args in
-    let m = (memory a.filter.now (tab a.xors.now a.flows.now a.unknowns.now a.positions.now a.marks.now) a.packets.now (records a.keys.now a.counts.now a.flags.now)) in
-    (s.requires.0, ranged a.s.sizes (held c.in_range.ensures c.if-not-in_range.false), subst Near (sym c.origin-o.ensures) near-origin)
+pub returns-then-not-is_session_seen-clause-answer : goal.returns-then-not-is_session_seen-clause-answer
+returns-then-not-is_session_seen-clause-answer c =
+    let a = c.args in
+    not_a a.p a.q a.s a.t (memory_seen a.room) c.requires.0 c.requires.1 c.origin.ensures c.after-seam.ensures c.after.ensures (held c.areas_fit.ensures c.if-not-areas_fit.false)
+    c.split_room.ensures.first c.split_room.ensures.second c.is_session_seen.ensures.0 (failed refl c.if-not-is_session_seen.true)
 
-pub place_after-e-requires : goal.place_after-e-requires
-place_after-e-requires c =
-    let s = c in
-    let a = s.args in
-    let m = (memory a.filter.now (tab a.xors.now a.flows.now a.unknowns.now a.positions.now a.marks.now) a.packets.now (records a.keys.now a.counts.now a.flags.now)) in (
-      s.requires.0,
-      ranged a.t.sizes (held c.in_range-2.ensures c.if-not-in_range-2.false),
-      subst Near (sym (c.place_after-p.ensures ∙ ap (place_after a.l a.s.sizes) c.origin-o.ensures)) (near-seam a.l a.s.sizes s.requires.0 (ranged a.s.sizes (held c.in_range.ensures c.if-not-in_range.false))),
-    )
+pub returns-then-not-is_session_seen-2-clause-answer : goal.returns-then-not-is_session_seen-2-clause-answer
+returns-then-not-is_session_seen-2-clause-answer c =
+    let a = c.args in
+    not-b a.p a.q a.s a.t (memory_seen a.room) c.requires.0 c.requires.1 c.origin.ensures c.after-seam.ensures c.after.ensures (held c.areas_fit.ensures c.if-not-areas_fit.false)
+    c.split_room.ensures.first c.split_room.ensures.second c.is_session_seen.ensures.0 (held refl c.if-not-is_session_seen.false)
+    c.is_session_seen-2.ensures.0 (failed refl c.if-not-is_session_seen-2.true)
 
-pub areas_fit-requires : goal.areas_fit-requires
-areas_fit-requires c = tt
+pub returns-then-s-t-clause-answer : goal.returns-then-s-t-clause-answer
+returns-then-s-t-clause-answer c =
+    let a = c.args in
+    other-slot a.p a.q a.s a.t (memory_seen a.room) c.requires.0 c.requires.1 c.origin.ensures c.after-seam.ensures c.after.ensures (held c.areas_fit.ensures c.if-not-areas_fit.false)
+    c.split_room.ensures.first c.split_room.ensures.second c.is_session_seen.ensures.0 (held refl c.if-not-is_session_seen.false)
+    c.is_session_seen-2.ensures.0 (held refl c.if-not-is_session_seen-2.false) (ne_eqb a.s.slot a.t.slot c.if-s-t.true)
 
-pub returns-then-not-areas_fit : goal.returns-then-not-areas_fit
-returns-then-not-areas_fit c =
-    let s = c in
-    let a = s.args in
-    let m = (memory a.filter.now (tab a.xors.now a.flows.now a.unknowns.now a.positions.now a.marks.now) a.packets.now (records a.keys.now a.counts.now a.flags.now)) in
-    (room-bad a.l a.s a.t m s.requires.0 (held c.in_range.ensures c.if-not-in_range.false) (held c.in_range-2.ensures c.if-not-in_range-2.false) c.origin-o.ensures c.place_after-p.ensures c.place_after-e.ensures (failed c.areas_fit.ensures c.if-not-areas_fit.true), not-passed {r = tested.BadRoom} refl)
+pub returns-clause-answer : goal.returns-clause-answer
+returns-clause-answer c =
+    let a = c.args in
+    all-passed a.p a.q a.s a.t (memory_seen a.room) c.requires.0 c.requires.1 c.origin.ensures c.after-seam.ensures c.after.ensures (held c.areas_fit.ensures c.if-not-areas_fit.false)
+    c.split_room.ensures.first c.split_room.ensures.second c.is_session_seen.ensures.0 (held refl c.if-not-is_session_seen.false)
+    c.is_session_seen-2.ensures.0 (held refl c.if-not-is_session_seen-2.false) (eq-eqb a.s.slot a.t.slot c.if-s-t.false)
 
-pub is_session_part-requires : goal.is_session_part-requires
-is_session_part-requires c =
-    let s = c in
-    let a = s.args in
-    let m = (memory a.filter.now (tab a.xors.now a.flows.now a.unknowns.now a.positions.now a.marks.now) a.packets.now (records a.keys.now a.counts.now a.flags.now)) in
-    let four = need-a a.l a.s a.t m s.requires.0 (held c.in_range.ensures c.if-not-in_range.false) (held c.in_range-2.ensures c.if-not-in_range-2.false) c.origin-o.ensures c.place_after-p.ensures c.place_after-e.ensures (held c.areas_fit.ensures c.if-not-areas_fit.false) a.seen.now s.requires.1 in
-    (four.0, four.1, four.2, four.3, s.requires.2)
+pub returns-clause-first : goal.returns-clause-first
+returns-clause-first c =
+    let a = c.args in
+    index-a a.p a.q a.s a.t (memory_seen a.room) c.requires.0 c.requires.1 c.origin.ensures c.after-seam.ensures c.after.ensures (held c.areas_fit.ensures c.if-not-areas_fit.false)
+    c.split_room.ensures.first c.split_room.ensures.second c.is_session_seen.ensures.0 (held refl c.if-not-is_session_seen.false)
+    c.is_session_seen-2.ensures.0 (held refl c.if-not-is_session_seen-2.false) c.requires.2 c.is_session_seen.ensures.1
 
-pub returns-then-not-is_session_part : goal.returns-then-not-is_session_part
-returns-then-not-is_session_part c =
-    let s = c in
-    let a = s.args in
-    let m = (memory a.filter.now (tab a.xors.now a.flows.now a.unknowns.now a.positions.now a.marks.now) a.packets.now (records a.keys.now a.counts.now a.flags.now)) in
-    (not_a a.l a.s a.t m s.requires.0 (held c.in_range.ensures c.if-not-in_range.false) (held c.in_range-2.ensures c.if-not-in_range-2.false) c.origin-o.ensures c.place_after-p.ensures c.place_after-e.ensures (held c.areas_fit.ensures c.if-not-areas_fit.false) a.seen.now s.requires.1 c.is_session_part.ensures.0 (failed refl c.if-not-is_session_part.true), not-passed {r = tested.NotSession} refl)
-
-pub is_session_part-requires-2 : goal.is_session_part-requires-2
-is_session_part-requires-2 c =
-    let s = c in
-    let a = s.args in
-    let m = (memory a.filter.now (tab a.xors.now a.flows.now a.unknowns.now a.positions.now a.marks.now) a.packets.now (records a.keys.now a.counts.now a.flags.now)) in
-    let four = need-b a.l a.s a.t m s.requires.0 (held c.in_range.ensures c.if-not-in_range.false) (held c.in_range-2.ensures c.if-not-in_range-2.false) c.origin-o.ensures c.place_after-p.ensures c.place_after-e.ensures (held c.areas_fit.ensures c.if-not-areas_fit.false) a.seen.now s.requires.1 c.is_session_part.ensures.0 (held refl c.if-not-is_session_part.false) c.is_session_part.ensures.1 in
-    (four.0, four.1, four.2, four.3, s.requires.3)
-
-pub returns-then-not-is_session_part-2 : goal.returns-then-not-is_session_part-2
-returns-then-not-is_session_part-2 c =
-    let s = c in
-    let a = s.args in
-    let m = (memory a.filter.now (tab a.xors.now a.flows.now a.unknowns.now a.positions.now a.marks.now) a.packets.now (records a.keys.now a.counts.now a.flags.now)) in
-    (not-b a.l a.s a.t m s.requires.0 (held c.in_range.ensures c.if-not-in_range.false) (held c.in_range-2.ensures c.if-not-in_range-2.false) c.origin-o.ensures c.place_after-p.ensures c.place_after-e.ensures (held c.areas_fit.ensures c.if-not-areas_fit.false) a.seen.now s.requires.1 c.is_session_part.ensures.0 (held refl c.if-not-is_session_part.false) c.is_session_part.ensures.1 c.is_session_part-2.ensures.0 (failed refl c.if-not-is_session_part-2.true), not-passed {r = tested.NotSession} refl)
-
-pub returns-then-s-t : goal.returns-then-s-t
-returns-then-s-t c =
-    let s = c in
-    let a = s.args in
-    let m = (memory a.filter.now (tab a.xors.now a.flows.now a.unknowns.now a.positions.now a.marks.now) a.packets.now (records a.keys.now a.counts.now a.flags.now)) in
-    (other-slot a.l a.s a.t m s.requires.0 (held c.in_range.ensures c.if-not-in_range.false) (held c.in_range-2.ensures c.if-not-in_range-2.false) c.origin-o.ensures c.place_after-p.ensures c.place_after-e.ensures (held c.areas_fit.ensures c.if-not-areas_fit.false) a.seen.now s.requires.1 c.is_session_part.ensures.0 (held refl c.if-not-is_session_part.false) c.is_session_part.ensures.1 c.is_session_part-2.ensures.0 (held refl c.if-not-is_session_part-2.false) (ne_eqb a.s.slot a.t.slot c.if-s-t.true), not-passed {r = tested.OtherSlot} refl)
-
-pub returns : goal.returns
-returns c =
-    let s = c in
-    let a = s.args in
-    let m = (memory a.filter.now (tab a.xors.now a.flows.now a.unknowns.now a.positions.now a.marks.now) a.packets.now (records a.keys.now a.counts.now a.flags.now)) in (
-      all-passed a.l a.s a.t m s.requires.0 (held c.in_range.ensures c.if-not-in_range.false) (held c.in_range-2.ensures c.if-not-in_range-2.false) c.origin-o.ensures c.place_after-p.ensures c.place_after-e.ensures (held c.areas_fit.ensures c.if-not-areas_fit.false) a.seen.now s.requires.1 c.is_session_part.ensures.0 (held refl c.if-not-is_session_part.false) c.is_session_part.ensures.1 c.is_session_part-2.ensures.0 (held refl c.if-not-is_session_part-2.false) (eq-eqb a.s.slot a.t.slot c.if-s-t.false),
-      λ q. index-both a.l a.s a.t m s.requires.0 (held c.in_range.ensures c.if-not-in_range.false) (held c.in_range-2.ensures c.if-not-in_range-2.false) c.origin-o.ensures c.place_after-p.ensures c.place_after-e.ensures (held c.areas_fit.ensures c.if-not-areas_fit.false) a.seen.now s.requires.1 c.is_session_part.ensures.0 (held refl c.if-not-is_session_part.false) c.is_session_part.ensures.1 c.is_session_part-2.ensures.0 (held refl c.if-not-is_session_part-2.false) c.is_session_part-2.ensures.1,
-    )
+pub returns-clause-second : goal.returns-clause-second
+returns-clause-second c =
+    let a = c.args in
+    index-b a.p a.q a.s a.t (memory_seen a.room) c.requires.0 c.requires.1 c.origin.ensures c.after-seam.ensures c.after.ensures (held c.areas_fit.ensures c.if-not-areas_fit.false)
+    c.split_room.ensures.first c.split_room.ensures.second c.is_session_seen.ensures.0 (held refl c.if-not-is_session_seen.false)
+    c.is_session_seen-2.ensures.0 (held refl c.if-not-is_session_seen-2.false) c.requires.3 c.is_session_seen-2.ensures.1

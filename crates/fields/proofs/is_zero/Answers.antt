@@ -5,25 +5,16 @@ use Rattle.laws.specs.Upto.{all_upto}
 use Rattle.laws.proofs.Zeros.{zero_turn, zero-end}
 use Rattle.fields.proofs.is_zero.Goals as goal
 
-pub loop-i-init : goal.loop-i-init
+pub loop-byte-init : goal.loop-byte-init
 unfolding all_upto
-loop-i-init c = (omega arith, refl)
+loop-byte-init c = refl
 
-pub bounds-s-i : goal.bounds-s-i
-bounds-s-i c = omega arith
-
-pub overflow_add-i : goal.overflow_add-i
-overflow_add-i c = omega arith
-
-pub loop-i-smaller : goal.loop-i-smaller
-loop-i-smaller c = omega arith
-
-pub loop-i-preserved : goal.loop-i-preserved
-loop-i-preserved c =
-    let q = c.loop-i in
-    (omega arith, zero_turn c.args.s.now q.i q.any q.invariant.1)
+pub loop-byte-preserved : goal.loop-byte-preserved
+loop-byte-preserved c =
+    let q = c.loop-byte in
+    zero_turn c.args.s.now q.byte-index q.any q.invariant
 
 pub returns : goal.returns
 returns c =
-    let q = c.loop-i in
-    zero-end c.args.s.now q.any (omega arith) q.invariant.1 refl
+    let q = c.loop-byte in
+    zero-end c.args.s.now q.any (omega arith) q.invariant refl

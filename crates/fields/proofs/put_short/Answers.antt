@@ -1,27 +1,9 @@
 -- `fields::put_short` meets its contract.
-use Rattle.fields.proofs.Fields.{short-put}
 use native.Mathlib.Omega.{arith}
-use lib.ListN.{length-set}
-use borrow.Author.Rules.{rules}
+use Rattle.fields.proofs.Fields.{short-put}
 use Rattle.fields.proofs.put_short.Goals as goal
 
-pub overflow_cast-s : goal.overflow_cast-s
-overflow_cast-s c = search rules
-
-pub bounds-s-at : goal.bounds-s-at
-bounds-s-at c = search rules
-
-pub overflow_cast-s-2 : goal.overflow_cast-s-2
-overflow_cast-s-2 c = search rules
-
-pub overflow_add-s : goal.overflow_add-s
-overflow_add-s c = search rules
-
-pub bounds-s-at-2 : goal.bounds-s-at-2
-bounds-s-at-2 c = simp length-set (omega arith)
-
-pub shape_of-s : goal.shape_of-s
-shape_of-s c = search rules
-
 pub returns : goal.returns
-returns c = short-put c.args.s.now c.args.at c.args.x
+returns c =
+    short-put c.args.s.now c.args.at c.args.x c.requires (omega arith) c.to_be_bytes.ensures
+    c.copy_from_slice.ensures.after

@@ -1,51 +1,27 @@
--- `filter::any_clear` meets its contract.
-use mathlib.Core.Path.{◌≡◌, refl, sym, ap, ◌∙◌}
+-- `filter::any_clear` meets its contract: the closure is asked of the first kf bits.
 use mathlib.Core.Bool.{not}
+use Prim.Native.Nat.{◌/◌, ◌<◌}
 use native.Mathlib.Omega.{arith}
-use lib.ListN.{get_or}
-use Rattle.laws.specs.Upto.{any_upto}
-use Rattle.laws.proofs.Upto.{any-yes, any-more}
+use borrow.Author.Rules.{rules}
+use borrow.Author.Tests.{tests}
+use lib.ListN.{length, take}
+use Rattle.std.proofs.lemmas.Iterator.{YieldsList-from_slice}
+use Rattle.std.proofs.lemmas.Iterator.Adapters.{serves_from_places}
+use Rattle.std.proofs.lemmas.Iterator.Search.{any_from_yields_List}
+use mathlib.Core.Path.{◌∙◌}
+use Rattle.laws.proofs.Fronts.{any_front, first_within}
 use Rattle.filter.specs.Filter.{is_set, any_clear}
 use Rattle.filter.proofs.any_clear.Goals as goal
 
-pub loop-i-init : goal.loop-i-init
-unfolding any_clear any_upto
-loop-i-init c = (omega arith, refl)
-
-pub offset_bounds-bits-i : goal.offset_bounds-bits-i
-offset_bounds-bits-i c = omega arith
-
-pub bounds-bits-i : goal.bounds-bits-i
-bounds-bits-i c = omega arith
-
-pub bit_is_set-requires : goal.bit_is_set-requires
-bit_is_set-requires c = c.requires.1 c.loop-i.i (omega arith)
-
-pub returns-then-not-bit_is_set : goal.returns-then-not-bit_is_set
-unfolding any_clear
-returns-then-not-bit_is_set c =
-    sym (any-yes c.args.kf
-    (λ i. not (is_set c.args.filter.now
-    (get_or c.args.bits.at i 0))) c.loop-i.i (omega arith)
-    (ap not (sym c.bit_is_set.ensures ∙ c.if-not-bit_is_set.true)))
-
-pub overflow_add-i : goal.overflow_add-i
-overflow_add-i c = omega arith
-
-pub loop-i-smaller : goal.loop-i-smaller
-loop-i-smaller c = omega arith
-
-pub loop-i-preserved : goal.loop-i-preserved
-unfolding any_clear
-loop-i-preserved c = (
-  omega arith,
-  any-more c.loop-i.i
-      (λ i. not (is_set c.args.filter.now
-      (get_or c.args.bits.at i 0))) ∙ rw c.loop-i.invariant.1
-      (ap not (sym c.bit_is_set.ensures ∙ c.if-not-bit_is_set.false)),
-)
+pub any-requires-clause-callable : goal.any-requires-clause-callable
+any-requires-clause-callable c =
+    let a = c.args in
+    serves_from_places (YieldsList-from_slice (take a.kf a.bits.at) cc) (λ x q h. search rules)
+    (λ x k l e. let within = first_within (λ n. n / 8 < length a.filter.now) a.bits.at a.kf c.requires.1 x.now k l e in search rules)
 
 pub returns : goal.returns
+unfolding any_clear
 returns c =
-    let e : c.loop-i.i ≡ c.args.kf = omega arith in
-    sym (ap (any_clear c.args.filter.now c.args.bits.at) (sym e) ∙ c.loop-i.invariant.1)
+    let a = c.args in
+    any_from_yields_List (λ n. not (is_set a.filter.now n)) _ _ _ c.any.ensures.ran (YieldsList-from_slice (take a.kf a.bits.at) cc) (λ x b q k. search (rules, tests))
+    ∙ any_front (λ n. not (is_set a.filter.now n)) a.bits.at a.kf (omega arith)

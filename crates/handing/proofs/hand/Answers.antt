@@ -1,86 +1,56 @@
 -- `handing::hand` meets its contract.
 use native.Mathlib.Omega.{arith}
+use Rattle.std.proofs.lemmas.Result.{err_from_is_err_and}
 use Rattle.layout.proofs.Ranges.{table-high}
-use Rattle.list.specs.Records.{records}
+use Rattle.list.specs.Found.{list_of}
 use Rattle.list.proofs.Laws.{key-inside, keys-inside}
-use Rattle.table.specs.Table.{tab}
+use Rattle.table.specs.Table.{tab_of}
 use Rattle.peeling.proofs.Answers.{first_two, listed-few}
 use Rattle.handing.proofs.Answers.{hand-other, hand-taken, taken-room}
-use borrow.Author.Rules.{rules}
 use Rattle.handing.proofs.hand.Goals as goal
 
-pub cells_of-at-requires : goal.cells_of-at-requires
-cells_of-at-requires c = search rules
+pub answer-requires : goal.answer-requires
+answer-requires c =
+    let f = c.requires.steady.fits in
+    (c.cells_of-at.ensures, c.requires.key_fits, c.requires.filter-fits, f.table.flows-fit, keys-inside c.args.n f.room f.listed, listed-few _ _ _ _ _ _ _ f, f.covers)
 
-pub answer-a-requires : goal.answer-a-requires
-answer-a-requires c =
-    let T = tab c.args.xors.now c.args.flows.now c.args.unknowns.now c.args.positions.now c.args.marks.now in
-    let R = records c.args.keys.now c.args.counts.now c.args.flags.now in
-    let f = c.requires.0.steady.fits in (
-      f.table.lays,
-      f.table.ranged,
-      c.cells_of-at.ensures,
-      c.requires.0.key_fits,
-      c.requires.0.filter-fits,
-      f.table.flows-fit,
-      keys-inside c.args.n f.room f.listed,
-      listed-few c.args.l c.args.z c.args.salt c.args.n T R c.args.seen.now f,
-      f.covers,
-      c.requires.1,
-    )
-
-pub returns-in_default : goal.returns-in_default
-returns-in_default c =
-    let T = tab c.args.xors.now c.args.flows.now c.args.unknowns.now c.args.positions.now c.args.marks.now in
-    let R = records c.args.keys.now c.args.counts.now c.args.flags.now in
+pub returns-in_err-answer-clause-value : goal.returns-in_err-answer-clause-value
+returns-in_err-answer-clause-value c =
     let a = c.args in
-    hand-other a.l a.z a.salt a.n a.key.now a.filter.now T R a.seen.now c.requires.0.handed-is
-    c.answer-a.ensures c.in_default.not-Taken
+    let s = a.p.shape in
+    let q = err_from_is_err_and c.from_residual.result c.from_residual.ensures.1 in
+    rw (q.1, q.2)
+    (hand-other s.layout s.sizes a.p.salt a.n a.key.now a.filter.now (tab_of a.table.now) (list_of a.found.now) a.seen.now c.requires.handed-is
+    c.answer.ensures c.in_err-answer.was)
 
 pub append-requires : goal.append-requires
 append-requires c =
-    let T = tab c.args.xors.now c.args.flows.now c.args.unknowns.now c.args.positions.now c.args.marks.now in
-    let R = records c.args.keys.now c.args.counts.now c.args.flags.now in
-    let r = c.requires.0.steady.fits.room in
-    let h = taken-room c.args.l c.args.z c.args.salt c.args.n c.args.handed c.args.key.now c.args.filter.now T R c.args.seen.now c.requires.0 c.answer-a.ensures c.in-Taken.is in
-    (c.requires.0.key_fits, key-inside c.args.n r h, omega (arith, r.counts-fit), omega (arith, r.flags-fit))
+    let h = c.requires in
+    let r = h.steady.fits.room in
+    let room = taken-room _ _ _ _ _ _ _ _ _ _ h c.answer.ensures c.in_ok-answer.was in
+    (h.key_fits, key-inside c.args.n r room, omega (arith, r.counts-fit, room), omega (arith, r.flags-fit, room))
 
 pub bucket-requires : goal.bucket-requires
-bucket-requires c =
-    let T = tab c.args.xors.now c.args.flows.now c.args.unknowns.now c.args.positions.now c.args.marks.now in
-    let R = records c.args.keys.now c.args.counts.now c.args.flags.now in
-    let a = c.args in
-    first_two a.l a.z a.salt a.n T R a.seen.now c.requires.0.steady.fits a.key.now
-    c.cells_of-at.ensures
+bucket-requires c = first_two _ _ _ _ _ _ _ c.requires.steady.fits c.args.key.now c.cells_of-at.ensures
 
 pub link-requires : goal.link-requires
 link-requires c =
-    let T = tab c.args.xors.now c.args.flows.now c.args.unknowns.now c.args.positions.now c.args.marks.now in
-    let R = records c.args.keys.now c.args.counts.now c.args.flags.now in
-    let a = c.args in (
-      c.requires.0.steady.fits.covers.sized,
-      omega (arith, c.bucket.ensures),
-      omega (arith, taken-room c.args.l c.args.z c.args.salt c.args.n c.args.handed c.args.key.now c.args.filter.now T R c.args.seen.now c.requires.0 c.answer-a.ensures c.in-Taken.is, table-high a.l a.z c.requires.0.steady.fits.table.lays c.requires.0.steady.fits.table.ranged),
-    )
+    let h = c.requires in
+    let s = c.args.p.shape in
+    let room = taken-room _ _ _ _ _ _ _ _ _ _ h c.answer.ensures c.in_ok-answer.was in
+    (h.steady.fits.covers.sized, omega (arith, c.bucket.ensures), omega (arith, room, table-high s.layout s.sizes s.lays s.ranged))
 
 pub overflow_cast-n : goal.overflow_cast-n
 overflow_cast-n c =
-    omega (arith, c.requires.0.steady.fits.listed, table-high c.args.l c.args.z c.requires.0.steady.fits.table.lays c.requires.0.steady.fits.table.ranged)
+    let s = c.args.p.shape in
+    omega (arith, c.requires.steady.fits.listed, table-high s.layout s.sizes s.lays s.ranged)
 
 pub take_out-requires : goal.take_out-requires
-take_out-requires c =
-    let s = c in (
-      s.requires.0.steady.fits.table,
-      c.cells_of-at.ensures,
-      s.requires.0.key_fits,
-      s.requires.1,
-    )
+take_out-requires c = (c.requires.steady.fits.table, c.cells_of-at.ensures, c.requires.key_fits)
 
-pub returns : goal.returns
-returns c =
-    let T = tab c.args.xors.now c.args.flows.now c.args.unknowns.now c.args.positions.now c.args.marks.now in
-    let R = records c.args.keys.now c.args.counts.now c.args.flags.now in
+pub returns-clause-value : goal.returns-clause-value
+returns-clause-value c =
     let a = c.args in
-    hand-taken a.l a.z a.salt a.n a.key.now a.filter.now T R a.seen.now c.requires.0.handed-is
-    c.answer-a.ensures
-    c.in-Taken.is c.cells_of-at.ensures c.append.ensures c.bucket.ensures c.link.ensures c.take_out.ensures
+    let s = a.p.shape in
+    hand-taken s.layout s.sizes a.p.salt a.n a.key.now a.filter.now (tab_of a.table.now) (list_of a.found.now) a.seen.now c.requires.handed-is
+    c.answer.ensures c.in_ok-answer.was c.cells_of-at.ensures c.append.ensures.value c.bucket.ensures c.link.ensures c.take_out.ensures.value

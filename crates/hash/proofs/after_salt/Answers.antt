@@ -4,20 +4,7 @@ use Rattle.laws.specs.BigEndian.{bytes_of}
 use Rattle.hash.specs.Fnv.{absorb}
 use Rattle.hash.specs.Places.{filter_role, cell_role}
 use Rattle.hash.proofs.Chain.{role-after, two-states}
-use borrow.Author.Rules.{rules}
 use Rattle.hash.proofs.after_salt.Goals as goal
-
-pub new-requires : goal.new-requires
-new-requires c = search rules
-
-pub word-f-requires : goal.word-f-requires
-word-f-requires c = search rules
-
-pub byte-requires : goal.byte-requires
-byte-requires c = search rules
-
-pub byte-requires-2 : goal.byte-requires-2
-byte-requires-2 c = search rules
 
 pub returns : goal.returns
 returns c =

@@ -1,16 +1,13 @@
 -- `hash::hashes` meets its contract.
-use mathlib.Core.Path.{◌∙◌}
-use Rattle.hash.proofs.Chain.{all-hashed}
-use borrow.Author.Rules.{rules}
+use Rattle.hash.proofs.Chain.{chains-begin, chains-on, chains-end}
 use Rattle.hash.proofs.hashes.Goals as goal
 
-pub indexed-requires : goal.indexed-requires
-indexed-requires c = search rules
+pub loop-b-init : goal.loop-b-init
+loop-b-init g c = chains-begin g.row.N c.args.f.state c.args.key.now c.indexed-states.ensures
 
-pub bytes-requires : goal.bytes-requires
-bytes-requires c = search rules
+pub loop-b-preserved : goal.loop-b-preserved
+loop-b-preserved g c =
+    chains-on g.row.N c.args.f.state c.args.key.now c.loop-b.b-index c.loop-b-test.true c.loop-b.invariant c.step_each-next.ensures
 
 pub returns : goal.returns
-returns c =
-    let a = c.args in
-    c.bytes.ensures ∙ all-hashed a.f.state a.first a.key.now c.indexed.ensures
+returns g c = chains-end g.row.N c.args.f.state c.args.key.now c.loop-b.b-index c.loop-b-test.false c.loop-b.invariant

@@ -1,38 +1,23 @@
 -- `hash::indexed` meets its contract.
-use mathlib.Core.Path.{ap, sym, ◌∙◌}
-use native.Mathlib.Nat.{add-zero}
-use Prim.Native.Nat.{◌+◌}
-use Rattle.laws.proofs.Upto.{list-four}
+use mathlib.Core.Path.{refl}
+use Prim.Native.Nat.{ℕ}
+use native.Mathlib.Omega.{arith}
+use lib.ListN.{replicate, length-replicate}
 use Rattle.hash.specs.Fnv.{step}
-use borrow.Author.Rules.{rules}
+use Rattle.laws.specs.Upto.{list_upto}
+use Rattle.laws.proofs.Upto.{filling, filled}
 use Rattle.hash.proofs.indexed.Goals as goal
 
-pub byte-requires : goal.byte-requires
-byte-requires c = search rules
+pub loop-i-init : goal.loop-i-init
+unfolding list_upto
+loop-i-init g c = refl
 
-pub overflow_add-first : goal.overflow_add-first
-overflow_add-first c = search rules
-
-pub byte-requires-2 : goal.byte-requires-2
-byte-requires-2 c = search rules
-
-pub overflow_add-first-2 : goal.overflow_add-first-2
-overflow_add-first-2 c = search rules
-
-pub byte-requires-3 : goal.byte-requires-3
-byte-requires-3 c = search rules
-
-pub overflow_add-first-3 : goal.overflow_add-first-3
-overflow_add-first-3 c = search rules
-
-pub byte-requires-4 : goal.byte-requires-4
-byte-requires-4 c = search rules
+pub loop-i-preserved : goal.loop-i-preserved
+loop-i-preserved g c =
+    filling c.loop-i.i (step c.args.f.state) (replicate g.row.N 0)
+    (omega (arith, length-replicate {A = ℕ} g.row.N 0, c.loop-i-test.true)) c.loop-i.invariant c.byte.ensures
 
 pub returns : goal.returns
-returns c =
-    let a = c.args in
-    list-four (λ i. step a.f.state (a.first + i))
-    (c.byte.ensures ∙ ap (step a.f.state) (sym (add-zero a.first)))
-    c.byte-2.ensures
-    c.byte-3.ensures
-    c.byte-4.ensures
+returns g c =
+    filled c.loop-i.i g.row.N (step c.args.f.state) (replicate g.row.N 0) (length-replicate {A = ℕ} g.row.N 0)
+    c.loop-i.auto.i-end c.loop-i-test.false c.loop-i.invariant

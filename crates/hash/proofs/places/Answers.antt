@@ -1,30 +1,24 @@
 -- `hash::places` meets its contract.
-use borrow.Author.Rules.{rules}
+use mathlib.Core.Path.{refl}
+use Prim.Native.Nat.{ℕ}
+use native.Mathlib.Omega.{arith}
+use lib.ListN.{replicate, length-replicate}
+use Rattle.std.specs.Prelude.{slice_index}
+use Rattle.hash.specs.Fnv.{place}
+use Rattle.laws.specs.Upto.{list_upto}
+use Rattle.laws.proofs.Upto.{filling, filled}
 use Rattle.hash.proofs.places.Goals as goal
 
-pub place-requires : goal.place-requires
-place-requires c = search rules
+pub loop-i-init : goal.loop-i-init
+unfolding list_upto
+loop-i-init g c = refl
 
-pub overflow_cast-result : goal.overflow_cast-result
-overflow_cast-result c = search rules
-
-pub place-requires-2 : goal.place-requires-2
-place-requires-2 c = search rules
-
-pub overflow_cast-result-2 : goal.overflow_cast-result-2
-overflow_cast-result-2 c = search rules
-
-pub place-requires-3 : goal.place-requires-3
-place-requires-3 c = search rules
-
-pub overflow_cast-result-3 : goal.overflow_cast-result-3
-overflow_cast-result-3 c = search rules
-
-pub place-requires-4 : goal.place-requires-4
-place-requires-4 c = search rules
-
-pub overflow_cast-result-4 : goal.overflow_cast-result-4
-overflow_cast-result-4 c = search rules
+pub loop-i-preserved : goal.loop-i-preserved
+loop-i-preserved g c =
+    filling c.loop-i.i (λ j. place (slice_index c.args.hashes j) c.args.n) (replicate g.row.N 0)
+    (omega (arith, length-replicate {A = ℕ} g.row.N 0, c.loop-i-test.true)) c.loop-i.invariant c.place.ensures
 
 pub returns : goal.returns
-returns c = (c.place.ensures, c.place-2.ensures, c.place-3.ensures, c.place-4.ensures)
+returns g c =
+    filled c.loop-i.i g.row.N (λ j. place (slice_index c.args.hashes j) c.args.n) (replicate g.row.N 0) (length-replicate {A = ℕ} g.row.N 0)
+    c.loop-i.auto.i-end c.loop-i-test.false c.loop-i.invariant

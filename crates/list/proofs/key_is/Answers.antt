@@ -1,31 +1,12 @@
-use mathlib.Core.Path.{◌≡◌, ap, ◌∙◌}
-use Prim.Native.Nat.{◌+◌, ◌*◌, ◌-◌}
-use native.Mathlib.Omega.{arith}
-use Rattle.list.specs.Records.{same_bytes}
-use Rattle.list.proofs.Laws.{key-part}
-use borrow.Author.Rules.{rules}
+use mathlib.Core.Path.{sym, ap, ◌∙◌}
+use lib.Dec.{eqb}
+use Rattle.std.specs.Cmp.Lexicographic.{pointwise}
+use Rattle.list.specs.Records.{key_at}
+use Rattle.list.proofs.Laws.{length-key, same-decided}
 use Rattle.list.proofs.key_is.Goals as goal
-
-pub overflow_mul-a : goal.overflow_mul-a
-overflow_mul-a c = search rules
-
-pub overflow_add-e : goal.overflow_add-e
-overflow_add-e c = search rules
-
-pub slice_bounds-same_key-count : goal.slice_bounds-same_key-count
-slice_bounds-same_key-count c = search rules
-
-pub slice_bounds-same_key-start : goal.slice_bounds-same_key-start
-slice_bounds-same_key-start c = search rules
-
-pub slice_bounds-same_key-end : goal.slice_bounds-same_key-end
-slice_bounds-same_key-end c = search rules
-
-pub same_key-requires : goal.same_key-requires
-same_key-requires c = search rules
 
 pub returns : goal.returns
 returns c =
     let a = c.args in
-    let e : a.i * a.l.key + a.l.key - a.i * a.l.key ≡ a.l.key = omega arith in
-    c.same_key.ensures ∙ ap (λ x. same_bytes x a.key.now) (key-part a.l a.keys.now a.i e)
+    c.eq.ensures ∙ ap (λ x. pointwise eqb x a.key.now) c.key_at.ensures
+    ∙ same-decided (key_at a.l a.keys.now a.i) a.key.now (length-key a.l a.keys.now a.i c.requires.0 ∙ sym c.requires.1)

@@ -1,80 +1,58 @@
 -- `opening::mark_pure` meets its contract.
-use mathlib.Core.Path.{◌≡◌, refl, ap, ◌∙◌}
-use native.Mathlib.Omega.{arith}
-use lib.ListN.{length, length-replicate}
+use Rattle.std.proofs.Common.{◌≡◌, ◌*◌, length, refl, ap, ap₂, ◌∙◌, arith}
 use Rattle.laws.specs.Upto.{each_upto}
 use Rattle.laws.proofs.Rows.{row_within}
 use Rattle.layout.specs.Sizes.{table_cells}
 use Rattle.layout.proofs.Ranges.{part_low}
-use Rattle.marks.specs.Marks.{words_for}
+use Rattle.table.specs.Table.{Tab, tab, pure_at}
 use Rattle.test8.proofs.Notes.{part_of}
 use Rattle.opening.specs.Open.{marks_of}
 use Rattle.opening.proofs.Pure.{marks_to, marks-turn}
 use Rattle.opening.proofs.mark_pure.Goals as goal
 
-pub part_cells-s-requires : goal.part_cells-s-requires
-part_cells-s-requires c =
-    let s = c in
-    (s.requires.0, s.requires.1)
-
-pub after_salt-h-requires : goal.after_salt-h-requires
-after_salt-h-requires c = tt
-
 pub loop-c-init : goal.loop-c-init
 unfolding each_upto
-loop-c-init c = (omega arith, refl, c.requires.4)
+loop-c-init c =
+    let t = c.args.table.now in
+    (ap (tab t.xors.now t.flows.now t.unknowns.now t.positions.now) c.requires.1, (refl, refl, refl, refl, refl, refl, refl, refl, refl, refl))
 
 pub nonzero_div-c : goal.nonzero_div-c
 nonzero_div-c c =
-    let s = c in
-    let a = s.args in
-    omega (arith, part_low a.l a.z s.requires.0 s.requires.1, c.part_cells-s.ensures)
+    let s = c.args.p.shape in
+    omega (arith, part_low s.layout s.sizes s.lays s.ranged, c.part_cells-s.ensures)
 
 pub is_pure-pure-requires : goal.is_pure-pure-requires
 is_pure-pure-requires c =
-    let s = c in
-    let a = s.args in
-    let d = c.loop-c.c in
-    let inside = row_within d (table_cells a.l a.z) a.l.key (omega arith) in (
-      s.requires.0,
-      s.requires.1,
-      part_of a.l a.z s.requires.0 s.requires.1 a.salt d c.part_cells-s.ensures (omega arith),
-      omega arith,
-      omega arith,
-      c.after_salt-h.ensures,
-    )
-
-pub put_mark-requires : goal.put_mark-requires
-put_mark-requires c =
-    let s = c in
-    let n = table_cells s.args.l s.args.z in
-    omega (arith, ap length s.requires.4 ∙ length-replicate (words_for n) 0)
-
-pub overflow_add-c : goal.overflow_add-c
-overflow_add-c c = omega arith
-
-pub loop-c-smaller : goal.loop-c-smaller
-loop-c-smaller c = omega arith
+    let a = c.args in
+    let s = a.p.shape in
+    let n = table_cells s.layout s.sizes in
+    let e = c.loop-c.invariant.0 in
+    let x : length c.loop-c.table.xors.now ≡ n * s.layout.key = ap (λ (t : Tab). length t.xors) e ∙ c.requires.0.xors-fit in
+    let f : length c.loop-c.table.flows.now ≡ n = ap (λ (t : Tab). length t.flows) e ∙ c.requires.0.flows-fit in
+    let inside = row_within c.loop-c.c n s.layout.key (omega arith) in
+    (part_of s.layout s.sizes s.lays s.ranged a.p.salt c.loop-c.c c.part_cells-s.ensures (omega arith), omega arith, omega arith)
 
 pub loop-c-preserved : goal.loop-c-preserved
 loop-c-preserved c =
-    let e1 = c in
-    let e2 = e1 in
-    let e3 = e2 in
-    let s = e3 in
-    let a = s.args in (
-      omega arith,
-      omega arith,
-      marks-turn a.l a.z a.salt a.xors.now a.flows.now e3.loop-c.c e3.loop-c.invariant.2
-          e2.is_pure-pure.ensures e1.put_mark.ensures,
-    )
-
-pub shape_of-marks : goal.shape_of-marks
-shape_of-marks c = omega arith
-
-pub returns : goal.returns
-unfolding marks_of
-returns c =
     let a = c.args in
-    let e : c.loop-c.c ≡ table_cells a.l a.z = omega arith in
-    c.loop-c.invariant.2 ∙ ap (marks_to a.l a.z a.salt a.xors.now a.flows.now) e
+    let s = a.p.shape in
+    let t = a.table.now in
+    let u = c.loop-c.table in
+    let e = c.loop-c.invariant.0 in
+    let x : u.xors.now ≡ t.xors.now = ap (λ (t : Tab). t.xors) e in
+    let f : u.flows.now ≡ t.flows.now = ap (λ (t : Tab). t.flows) e in
+    let n : u.unknowns.now ≡ t.unknowns.now = ap (λ (t : Tab). t.unknowns) e in
+    let p : u.positions.now ≡ t.positions.now = ap (λ (t : Tab). t.positions) e in
+    let pure = c.is_pure-pure.ensures ∙ ap₂ (λ v w. pure_at s.layout s.sizes a.p.salt v w c.loop-c.c) x f in
+    let m = marks-turn s.layout s.sizes a.p.salt t.xors.now t.flows.now c.loop-c.c (ap (λ (t : Tab). t.marks) e) pure c.put_mark.ensures in
+    (rw (x, f, n, p, m), c.loop-c.invariant.1)
+
+pub returns-clause-value : goal.returns-clause-value
+unfolding marks_of
+returns-clause-value c =
+    let a = c.args in
+    let s = a.p.shape in
+    let t = a.table.now in
+    let e : c.loop-c.c ≡ table_cells s.layout s.sizes = omega (arith, c.table_cells-c-end.ensures) in
+    c.loop-c.invariant.0
+    ∙ ap (λ n. tab t.xors.now t.flows.now t.unknowns.now t.positions.now (marks_to s.layout s.sizes a.p.salt t.xors.now t.flows.now n)) e

@@ -1,14 +1,11 @@
 -- `opening::mark_pure` meets its contract.
-use mathlib.Core.Path.{◌≡◌}
-use Prim.Native.Nat.{◌-◌, ◌≤◌}
-use lib.ListN.{length}
+use Rattle.std.proofs.Common.{◌≡◌}
+use Rattle.table.specs.Table.{tab, tab_of, TableKept}
 use Rattle.opening.proofs.Pure.{marks_to}
 use Rattle.opening.proofs.mark_pure.Given as goal
 
 abbrev pub invariant-loop-c : goal.invariant-loop-c
 invariant-loop-c l =
-    (l.c ≤ length l.flows) × (length l.marks ≡ length l.initial.marks)
-    × (l.marks ≡ marks_to l.l l.z l.salt l.xors l.flows l.c)
-
-abbrev pub decreases-loop-c : goal.decreases-loop-c
-decreases-loop-c l = length l.flows - l.c
+    let t = l.initial.table in
+    (tab_of l.table ≡ tab t.xors.now t.flows.now t.unknowns.now t.positions.now (marks_to l.p.shape.layout l.p.shape.sizes l.p.salt t.xors.now t.flows.now l.c))
+    × TableKept l.table t

@@ -1,45 +1,54 @@
 -- `opening::open_in` meets its contract: one law for each return.
-use mathlib.Core.Path.{sym, ◌∙◌}
+use Rattle.std.proofs.Common.{sym, ap, ◌∙◌, rules}
+use Rattle.std.proofs.lemmas.Result.{err_from_is_err_and}
 use Rattle.laws.proofs.Bools.{held, failed}
 use Rattle.reading.proofs.Accepts.{accepted}
 use Rattle.list.specs.Records.{records}
 use Rattle.table.specs.Table.{tab}
-use Rattle.room.specs.Memory.{memory}
+use Rattle.room.specs.Memory.{memory, room_fits}
+use Rattle.room.specs.Seen.{memory_seen}
 use Rattle.room.proofs.Laws.{rooms-told}
-use Rattle.opening.proofs.Returns.{open-refused, open-no-room, open-filled}
+use Rattle.opening.proofs.Returns.{open-refused, open-no-room, open-filled, lent-room}
 use Rattle.opening.proofs.open_in.Goals as goal
 
-pub returns-in_default : goal.returns-in_default
-returns-in_default c =
+pub returns-in_err-read : goal.returns-in_err-read
+returns-in_err-read c =
     let a = c.args in
-    let t = tab a.xors.now a.flows.now a.unknowns.now a.positions.now a.marks.now in
-    let m = memory a.filter.now t a.packets.now (records a.keys.now a.counts.now a.flags.now) in
-    open-refused a.l a.image.now a.slot m c.read_in-r.ensures c.in_default.not-Image c.refusal.ensures
+    let m = memory a.filter.now (tab a.xors.now a.flows.now a.unknowns.now a.positions.now a.marks.now) a.packets.now
+    (records a.keys.now a.counts.now a.flags.now) in
+    let p = err_from_is_err_and c.from_residual.result c.from_residual.ensures.1 in
+    rw (p.1, p.2) (open-refused a.l a.image.now a.slot m (sym c.in_err-read.was ∙ c.read_in.ensures))
 
-pub fits-requires : goal.fits-requires
-fits-requires c =
-    (c.requires, (accepted c.args.l _ _ c.args.slot c.args.image.now (sym c.read_in-r.ensures ∙ c.in-Image.is)).sizes)
+pub invariant_of-shape : goal.invariant_of-shape
+invariant_of-shape c =
+    let a = c.args in
+    record { lays = c.requires; ranged = (accepted a.l _ _ a.slot a.image.now (sym c.read_in.ensures ∙ c.in_ok-read.was)).sizes }
 
 pub returns-then-not-fits : goal.returns-then-not-fits
 returns-then-not-fits c =
     let a = c.args in
-    let t = tab a.xors.now a.flows.now a.unknowns.now a.positions.now a.marks.now in
-    let m = memory a.filter.now t a.packets.now (records a.keys.now a.counts.now a.flags.now) in
-    open-no-room a.l a.image.now a.slot m c.read_in-r.ensures c.in-Image.is (failed c.fits.ensures c.if-not-fits.true)
+    let m = memory a.filter.now (tab a.xors.now a.flows.now a.unknowns.now a.positions.now a.marks.now) a.packets.now
+    (records a.keys.now a.counts.now a.flags.now) in
+    let z = c.in_ok-read.read.sizes in
+    open-no-room a.l a.image.now a.slot m (sym c.in_ok-read.was ∙ c.read_in.ensures)
+    (failed (c.fits.ensures ∙ ap (λ r. room_fits a.l z (memory_seen r)) c.new-room.ensures) c.if-not-fits.true)
 
 pub fill-requires : goal.fill-requires
 fill-requires c =
     let a = c.args in
-    let t = tab a.xors.now a.flows.now a.unknowns.now a.positions.now a.marks.now in
-    let m = memory a.filter.now t a.packets.now (records a.keys.now a.counts.now a.flags.now) in
-    let e = accepted a.l _ _ a.slot a.image.now (sym c.read_in-r.ensures ∙ c.in-Image.is) in
-    (c.requires, e.sizes, e.whole, rooms-told a.l _ c.requires e.sizes m (held c.fits.ensures c.if-not-fits.false))
+    let m = memory a.filter.now (tab a.xors.now a.flows.now a.unknowns.now a.positions.now a.marks.now) a.packets.now
+    (records a.keys.now a.counts.now a.flags.now) in
+    let z = c.in_ok-read.read.sizes in
+    let e = accepted a.l _ _ a.slot a.image.now (sym c.read_in.ensures ∙ c.in_ok-read.was) in
+    rw c.new-p.ensures.0 (e.whole, rooms-told a.l z c.requires e.sizes m (held (c.fits.ensures ∙ ap (λ r. room_fits a.l z (memory_seen r)) c.new-room.ensures) c.if-not-fits.false))
 
 pub returns : goal.returns
 returns c =
     let a = c.args in
-    let t = tab a.xors.now a.flows.now a.unknowns.now a.positions.now a.marks.now in
-    let m = memory a.filter.now t a.packets.now (records a.keys.now a.counts.now a.flags.now) in
-    let w = c.fill.new in
-    open-filled a.l a.image.now a.slot m c.read_in-r.ensures c.in-Image.is (held c.fits.ensures c.if-not-fits.false)
-    {m' = memory w.filter (tab w.xors w.flows w.unknowns w.positions w.marks) w.packets (records w.keys w.counts w.flags)} c.fill.ensures
+    let m = memory a.filter.now (tab a.xors.now a.flows.now a.unknowns.now a.positions.now a.marks.now) a.packets.now
+    (records a.keys.now a.counts.now a.flags.now) in
+    let z = c.in_ok-read.read.sizes in
+    open-filled a.l a.image.now a.slot m (sym c.in_ok-read.was ∙ c.read_in.ensures)
+    (held (c.fits.ensures ∙ ap (λ r. room_fits a.l z (memory_seen r)) c.new-room.ensures) c.if-not-fits.false)
+    (lent-room c.fill.new.table c.fill.new.list (rw (c.new-p.ensures.1, c.new-p.ensures.0) at c.fill.ensures.value) (search rules) (search rules) (search rules)
+    (search rules) (search rules) (search rules) (search rules) (search rules))

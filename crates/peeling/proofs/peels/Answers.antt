@@ -1,89 +1,42 @@
-use mathlib.Core.Path.{refl, sym, ◌∙◌}
+-- `peeling::peels` meets its contract.
+use mathlib.Core.Path.{refl, ap, ◌∙◌}
 use native.Mathlib.Omega.{arith}
-use borrow.Author.Rules.{rules}
-use Rattle.list.specs.Records.{records}
-use Rattle.table.specs.Table.{tab}
+use Rattle.std.proofs.Common.{Ok}
+use Rattle.list.proofs.Laws.{found-self, found-on}
+use Rattle.table.proofs.Parts.{table-self, table-on}
 use Rattle.peeling.proofs.Answers.{has_room}
-use Rattle.peeling.proofs.Loop.{going-room, going_on, going-stop}
+use Rattle.peeling.proofs.Loop.{going-room, going_on, going-quiet, going-damaged}
 use Rattle.peeling.proofs.peels.Goals as goal
 
-pub loop-m-init : goal.loop-m-init
-loop-m-init c =
-    let s = c in
-    record { steady = s.requires.0; goes = refl }
+pub loop-listed-init : goal.loop-listed-init
+loop-listed-init c = record {
+  going = record { steady = c.requires; goes = refl };
+  table-kept = table-self c.args.table.now;
+  found-kept = found-self c.args.found.now;
+}
 
-pub peel-s-requires : goal.peel-s-requires
-peel-s-requires c =
-    let a = c.args in
-    let b = c.loop-m in (
-      b.invariant.steady.fits,
-      has_room a.l a.z a.salt b.m (tab b.xors b.flows b.unknowns b.positions b.marks) (records b.keys b.counts b.flags) b.seen
-          b.invariant.steady.fits b.invariant.steady.bounded,
-      c.requires.1,
-    )
+pub peel-requires : goal.peel-requires
+peel-requires c =
+    let s = c.loop-listed.invariant.going.steady in
+    (s.fits, has_room _ _ _ _ _ _ _ s.fits s.bounded)
 
-pub enum_told-1 : goal.enum_told-1
-enum_told-1 c = search rules
+pub loop-listed-smaller : goal.loop-listed-smaller
+loop-listed-smaller c =
+    let room = going-room c.loop-listed.invariant.going c.peel.ensures.value (c.in-Ok-true.is ∙ ap Ok c.in-Ok-true.field-0-test) in
+    omega arith
 
-pub overflow_add-m : goal.overflow_add-m
-overflow_add-m c =
-    let room = going-room
-    c.loop-m.invariant c.peel-s.ensures c.in-Next.is in
-    let f = c.requires.0.fits in
-    omega (
-      arith,
-      Rattle.layout.proofs.Ranges.table-high
-          c.args.l c.args.z f.table.lays f.table.ranged,
-    )
+pub loop-listed-preserved : goal.loop-listed-preserved
+loop-listed-preserved c =
+    let before = c.loop-listed.invariant in
+    record {
+      going = going_on before.going c.peel.ensures.value (c.in-Ok-true.is ∙ ap Ok c.in-Ok-true.field-0-test);
+      table-kept = table-on c.peel.new.table c.loop-listed.table c.args.table.now c.peel.ensures.table_kept before.table-kept;
+      found-kept = found-on c.peel.new.found c.loop-listed.found c.args.found.now c.peel.ensures.found_kept before.found-kept;
+    }
 
-pub loop-m-smaller : goal.loop-m-smaller
-loop-m-smaller c =
-    let room = going-room
-    c.loop-m.invariant c.peel-s.ensures c.in-Next.is in omega arith
+pub returns-in-Ok-false-clause-value : goal.returns-in-Ok-false-clause-value
+returns-in-Ok-false-clause-value c =
+    going-quiet c.loop-listed.invariant.going c.peel.ensures.value (c.in-Ok-false.is ∙ ap Ok c.in-Ok-false.field-0-test)
 
-pub loop-m-preserved : goal.loop-m-preserved
-loop-m-preserved c =
-    going_on c.loop-m.invariant c.peel-s.ensures c.in-Next.is
-
-pub stop_at-requires : goal.stop_at-requires
-stop_at-requires c = search rules
-
-pub shape_of-xors-in_default : goal.shape_of-xors-in_default
-shape_of-xors-in_default c =
-    c.peel-s.auto.xors ∙ c.loop-m.invariant.steady.fits.table.xors-fit ∙ sym c.requires.0.fits.table.xors-fit
-
-pub shape_of-flows-in_default : goal.shape_of-flows-in_default
-shape_of-flows-in_default c =
-    c.peel-s.auto.flows ∙ c.loop-m.invariant.steady.fits.table.flows-fit ∙ sym c.requires.0.fits.table.flows-fit
-
-pub shape_of-unknowns-in_default : goal.shape_of-unknowns-in_default
-shape_of-unknowns-in_default c =
-    c.peel-s.auto.unknowns ∙ c.loop-m.invariant.steady.fits.table.unknowns-fit ∙ sym c.requires.0.fits.table.unknowns-fit
-
-pub shape_of-positions-in_default : goal.shape_of-positions-in_default
-shape_of-positions-in_default c =
-    c.peel-s.auto.positions ∙ c.loop-m.invariant.steady.fits.table.positions-fit ∙ sym c.requires.0.fits.table.positions-fit
-
-pub shape_of-marks-in_default : goal.shape_of-marks-in_default
-shape_of-marks-in_default c =
-    c.peel-s.auto.marks ∙ c.loop-m.invariant.steady.fits.table.marks-fit ∙ sym c.requires.0.fits.table.marks-fit
-
-pub shape_of-keys-in_default : goal.shape_of-keys-in_default
-shape_of-keys-in_default c =
-    c.peel-s.auto.keys ∙ c.loop-m.invariant.steady.fits.room.keys-fit ∙ sym c.requires.0.fits.room.keys-fit
-
-pub shape_of-counts-in_default : goal.shape_of-counts-in_default
-shape_of-counts-in_default c =
-    c.peel-s.auto.counts ∙ c.loop-m.invariant.steady.fits.room.counts-fit ∙ sym c.requires.0.fits.room.counts-fit
-
-pub shape_of-flags-in_default : goal.shape_of-flags-in_default
-shape_of-flags-in_default c =
-    c.peel-s.auto.flags ∙ c.loop-m.invariant.steady.fits.room.flags-fit ∙ sym c.requires.0.fits.room.flags-fit
-
-pub shape_of-seen-in_default : goal.shape_of-seen-in_default
-shape_of-seen-in_default c =
-    c.peel-s.auto.seen ∙ c.loop-m.invariant.steady.fits.covers.sized ∙ sym c.requires.0.fits.covers.sized
-
-pub returns-in_default : goal.returns-in_default
-returns-in_default c =
-    going-stop c.loop-m.invariant c.peel-s.ensures c.in_default.not-Next c.stop_at.ensures
+pub returns-in-Err-clause-value : goal.returns-in-Err-clause-value
+returns-in-Err-clause-value c = going-damaged c.loop-listed.invariant.going c.peel.ensures.value c.in-Err.is

@@ -1,15 +1,18 @@
 use Prim.Native.Nat.{◌*◌, ◌-◌}
 use Rattle.layout.specs.Sizes.{table_cells}
-use Rattle.list.specs.Records.{records}
-use Rattle.table.specs.Table.{tab}
+use Rattle.list.specs.Found.{list_of, FoundKept}
+use Rattle.table.specs.Table.{tab_of, TableKept}
 use Rattle.peeling.specs.Peel.{peels_of}
 use Rattle.peeling.proofs.Loop.{Going}
 use Rattle.peeling.proofs.peels.Given as goal
 
-abbrev pub invariant-loop-m : goal.invariant-loop-m
-invariant-loop-m l =
-    Going l.l l.z l.salt l.m (tab l.xors l.flows l.unknowns l.positions l.marks) (records l.keys l.counts l.flags) l.seen
-    (peels_of l.l l.z l.salt l.n (tab l.initial.xors l.initial.flows l.initial.unknowns l.initial.positions l.initial.marks) (records l.initial.keys l.initial.counts l.initial.flags) l.initial.seen)
+abbrev pub invariant-loop-listed : goal.invariant-loop-listed
+invariant-loop-listed l = record {
+  going : Going l.p.shape.layout l.p.shape.sizes l.p.salt l.listed (tab_of l.table) (list_of l.found) l.seen
+      (peels_of l.p.shape.layout l.p.shape.sizes l.p.salt l.n (tab_of l.initial.table) (list_of l.initial.found) l.initial.seen);
+  table-kept : TableKept l.table l.initial.table;
+  found-kept : FoundKept l.found l.initial.found;
+}
 
-abbrev pub decreases-loop-m : goal.decreases-loop-m
-decreases-loop-m l = 2 * table_cells l.l l.z - l.m
+abbrev pub decreases-loop-listed : goal.decreases-loop-listed
+decreases-loop-listed l = 2 * table_cells l.p.shape.layout l.p.shape.sizes - l.listed

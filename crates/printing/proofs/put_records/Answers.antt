@@ -1,39 +1,19 @@
--- `printing::put_records` meets its contract: a line a turn.
-use mathlib.Core.Path.{◌≡◌}
+-- A line a turn.
 use native.Mathlib.Omega.{arith}
-use Rattle.list.specs.Records.{records}
-use Rattle.lines.proofs.Lines.{put-length}
-use Rattle.printing.proofs.Records.{written_none, written-more}
-use borrow.Author.Rules.{rules}
+use Rattle.list.specs.Seen.{list_seen}
+use Rattle.printing.proofs.Records.{record-room, none-added, one-added}
 use Rattle.printing.proofs.put_records.Goals as goal
 
 pub loop-i-init : goal.loop-i-init
-loop-i-init c =
-    let c4 = c in
-    let a = c4.args in (omega arith, written_none (records a.keys.now a.counts.now a.flags.now) a.out.now a.at (omega arith))
+loop-i-init c = none-added (list_seen c.args.found) c.requires.0
 
-pub put_record-to-requires : goal.put_record-to-requires
-put_record-to-requires c =
-    let c2 = c in
-    let w = c2.loop-i.invariant.1 in let e = put-length w.text in (omega arith, omega arith, omega arith, omega arith)
-
-pub overflow_add-i : goal.overflow_add-i
-overflow_add-i c = search rules
-
-pub loop-i-smaller : goal.loop-i-smaller
-loop-i-smaller c = search rules
+pub put_record-requires : goal.put_record-requires
+put_record-requires c = (
+  record-room (list_seen c.args.found) c.args.n c.loop-i.i c.requires.0 c.loop-i.invariant c.loop-i-test.true,
+  omega arith,
+  omega arith,
+  omega arith,
+)
 
 pub loop-i-preserved : goal.loop-i-preserved
-loop-i-preserved c =
-    let c2 = c in
-    let c5 = c2 in
-    (omega arith, written-more c5.loop-i.invariant.1 c2.put_record-to.ensures.0 c2.put_record-to.ensures.1)
-
-pub shape_of-out : goal.shape_of-out
-shape_of-out c = put-length c.loop-i.invariant.1.text
-
-pub returns : goal.returns
-returns c =
-    let c1 = c in
-    let c6 = c1 in
-    let all : c1.loop-i.i ≡ c6.args.n = omega arith in (rw all at c1.loop-i.invariant.1.text)
+loop-i-preserved c = one-added (list_seen c.args.found) c.loop-i.i c.loop-i.invariant c.put_record.ensures

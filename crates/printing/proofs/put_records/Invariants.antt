@@ -1,11 +1,9 @@
--- `printing::put_records` meets its contract: a line a turn.
-use Prim.Native.Nat.{◌-◌, ◌≤◌}
-use Rattle.list.specs.Records.{records}
-use Rattle.printing.proofs.Records.{Written}
+-- The lines of the first i records are added.
+use Rattle.laws.specs.Upto.{join_upto}
+use Rattle.lines.specs.Page.{Adds}
+use Rattle.list.specs.Seen.{list_seen}
+use Rattle.printing.specs.Print.{record_line}
 use Rattle.printing.proofs.put_records.Given as goal
 
 abbrev pub invariant-loop-i : goal.invariant-loop-i
-invariant-loop-i l = (l.i ≤ l.n) × Written (records l.keys l.counts l.flags) l.initial.out l.at l.out l.to l.i
-
-abbrev pub decreases-loop-i : goal.decreases-loop-i
-decreases-loop-i l = l.n - l.i
+invariant-loop-i l = Adds l.initial.page l.page (join_upto l.i (record_line (list_seen l.found)))

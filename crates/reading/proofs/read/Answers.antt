@@ -1,10 +1,6 @@
 -- `reading::read` meets its contract: the layout of IPv4 is one.
 use Rattle.layout.proofs.Ranges.{lays-ipv4}
-use borrow.Author.Rules.{rules}
 use Rattle.reading.proofs.read.Goals as goal
-
-pub ipv4-requires : goal.ipv4-requires
-ipv4-requires c = search rules
 
 pub read_in-requires : goal.read_in-requires
 read_in-requires c = rw c.ipv4.ensures lays-ipv4

@@ -7,11 +7,10 @@ use Rattle.reading.proofs.read_later.Given as goal
 
 abbrev pub invariant-loop-n : goal.invariant-loop-n
 invariant-loop-n l =
-    (1 ≤ l.n)
-    × (l.count ≡ blocks l.z)
-    × (l.n ≤ l.count)
-    × (read_later l.l l.z l.salt l.slot l.image l.n (l.count - l.n) ≡ read_later l.l l.z l.salt l.slot l.image 1 (blocks l.z - 1))
-    × (l.n ≤ l.right + 1)
-
-abbrev pub decreases-loop-n : goal.decreases-loop-n
-decreases-loop-n l = l.count - l.n
+    let z = l.shape.sizes in
+    record {
+      counted : l.count ≡ blocks z;
+      left :
+          read_later l.shape.layout z l.salt l.slot l.image l.n (l.count - l.n) ≡ read_later l.shape.layout z l.salt l.slot l.image 1 (blocks z - 1);
+      right_so_far : l.n ≤ l.right + 1;
+    }

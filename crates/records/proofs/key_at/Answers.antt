@@ -1,4 +1,4 @@
--- `records::key_at` meets its contract: the bytes are those of the record.
+-- The bytes are those of the record.
 use mathlib.Core.Path.{ap, ◌∙◌}
 use Prim.Native.Nat.{◌+◌, ◌*◌, ◌-◌}
 use native.Mathlib.Omega.{arith}
@@ -10,5 +10,5 @@ use Rattle.records.proofs.key_at.Goals as goal
 pub returns : goal.returns
 returns c =
     let a = c.args in
-    c.key_from.ensures ∙ ap key_from
-    (c.copy_in.ensures ∙ key-part ipv4_layout a.keys.now a.i {k = a.i * 13 + 13 - a.i * 13} (omega arith))
+    c.from.ensures ∙ ap key_from
+    (c.copy_from_slice.ensures.after ∙ key-part ipv4_layout a.keys.now a.i {k = a.i * 13 + 13 - a.i * 13} (omega arith))

@@ -1,9 +1,7 @@
--- `records::load` meets its contract.
-use Rattle.list.specs.Records.{records}
+-- The numbers at a position are a record.
+use Rattle.list.specs.Seen.{list_seen}
 use Rattle.records.proofs.Laws.{loads}
 use Rattle.records.proofs.load.Goals as goal
 
 pub returns : goal.returns
-returns c =
-    let a = c.args in
-    loads (records a.keys.now a.counts.now a.flags.now) a.i c.key_at-key.ensures
+returns c = loads (list_seen c.args.found) c.args.i c.key_at.ensures

@@ -1,61 +1,36 @@
-use mathlib.Core.Path.{ap₂}
-use Prim.Native.Nat.{◌+◌, ◌*◌}
-use native.Mathlib.Omega.{arith}
+use Rattle.std.proofs.Common.{◌≡◌, ap, ap₂, ◌∙◌, ℕ, ◌+◌, ◌*◌, Err, arith, rules}
+use Rattle.hash.specs.declared.Placing.{Placing}
+use Rattle.layout.specs.Sizes.{table_cells}
 use Rattle.layout.proofs.Ranges.{table-high}
-use Rattle.rounds.proofs.Rounds.{sides-both, sides-stopped, sides-settled}
+use Rattle.rounds.specs.Rounds.{ended}
+use Rattle.rounds.specs.Meets.{pair_in}
+use Rattle.rounds.proofs.Rounds.{settled-meets, sides-stopped, sides-settled}
 use Rattle.rounds.proofs.exchange_sides.Goals as goal
 
-pub settle_both-r-requires : goal.settle_both-r-requires
-settle_both-r-requires c =
-    (c.requires.0, c.requires.2, c.requires.3)
-
-pub returns-in_default : goal.returns-in_default
-returns-in_default c =
-    let a = c.args in
-    let h = c.requires.0 in
-    sides-stopped a.l a.s a.t a.p a.e a.filter.now h c.settle_both-r.ensures c.in_default.not-Settled
-
-pub table_cells-requires : goal.table_cells-requires
-table_cells-requires c =
-    (c.requires.0.ends.lays, c.requires.0.ends.ranged-a)
-
-pub overflow_mul-most : goal.overflow_mul-most
-overflow_mul-most c =
-    let a = c.args in
-    let h = c.requires.0 in
-    omega (arith, table-high a.l a.s.sizes h.ends.lays h.ends.ranged-a, table-high a.l a.t.sizes h.ends.lays h.ends.ranged-b, c.table_cells.ensures)
-
-pub table_cells-requires-2 : goal.table_cells-requires-2
-table_cells-requires-2 c =
-    (c.requires.0.ends.lays, c.requires.0.ends.ranged-b)
-
-pub overflow_mul-most-2 : goal.overflow_mul-most-2
-overflow_mul-most-2 c =
-    let a = c.args in
-    let h = c.requires.0 in
-    omega (arith, table-high a.l a.s.sizes h.ends.lays h.ends.ranged-a, table-high a.l a.t.sizes h.ends.lays h.ends.ranged-b, c.table_cells.ensures, c.table_cells-2.ensures)
-
-pub overflow_add-most : goal.overflow_add-most
-overflow_add-most c =
-    let a = c.args in
-    let h = c.requires.0 in
-    omega (arith, table-high a.l a.s.sizes h.ends.lays h.ends.ranged-a, table-high a.l a.t.sizes h.ends.lays h.ends.ranged-b, c.table_cells.ensures, c.table_cells-2.ensures)
-
-pub overflow_add-most-2 : goal.overflow_add-most-2
-overflow_add-most-2 c =
-    let a = c.args in
-    let h = c.requires.0 in
-    omega (arith, table-high a.l a.s.sizes h.ends.lays h.ends.ranged-a, table-high a.l a.t.sizes h.ends.lays h.ends.ranged-b, c.table_cells.ensures, c.table_cells-2.ensures)
+pub returns-in_err-settle_both-clause-value : goal.returns-in_err-settle_both-clause-value
+returns-in_err-settle_both-clause-value c =
+    let a = c.settle_both.new.a in
+    let b = c.settle_both.new.b in
+    let is : c.from_residual.result ≡ Err c.in_err-settle_both.field-0.0 = search rules in
+    ap (λ o. ended o (pair_in a b c.args.twelves.now)) is
+    ∙ sides-stopped c.args.a.now c.args.b.now c.args.twelves.now c.requires.0 a b c.settle_both.ensures.kept_a c.settle_both.ensures.kept_b (c.settle_both.ensures.value c.args.twelves.now)
+    c.in_err-settle_both.was
 
 pub all_rounds-requires : goal.all_rounds-requires
 all_rounds-requires c =
-    let a = c.args in
-    let h = c.requires.0 in
-    (sides-both a.l a.s a.t a.p a.e a.filter.now h c.settle_both-r.ensures, c.requires.1, omega (arith, table-high a.l a.s.sizes h.ends.lays h.ends.ranged-a, table-high a.l a.t.sizes h.ends.lays h.ends.ranged-b, c.table_cells.ensures, c.table_cells-2.ensures), c.requires.2, c.requires.3)
+    let meets = settled-meets c.args.a.now c.args.b.now c.args.twelves.now c.requires.0 c.settle_both.new.a c.settle_both.new.b c.settle_both.ensures.kept_a c.settle_both.ensures.kept_b
+    (c.settle_both.ensures.value c.args.twelves.now) in
+    let x = c.settle_both.new.a.placing.shape in
+    let y = c.settle_both.new.b.placing.shape in
+    let t = c.table_cells.ensures in
+    let u = c.table_cells-2.ensures in
+    (meets, c.requires.1, omega (arith, t, u, table-high x.layout x.sizes x.lays x.ranged, table-high y.layout y.sizes y.lays y.ranged))
 
-pub returns : goal.returns
-returns c =
-    let a = c.args in
-    let h = c.requires.0 in
-    sides-settled a.l a.s a.t a.p a.e a.filter.now h c.settle_both-r.ensures c.in-Settled.is
-    (ap₂ (λ x y. 2 * x + 2 * y + 1) c.table_cells.ensures c.table_cells-2.ensures) c.all_rounds.ensures
+pub returns-clause-value : goal.returns-clause-value
+returns-clause-value c =
+    let cells : Placing → ℕ = λ x. table_cells x.shape.layout x.shape.sizes in
+    let b = c.args.b.now.placing.shape.sizes in
+    let most = ap₂ (λ m n. 2 * m + 2 * n + 1) (c.table_cells.ensures ∙ ap cells c.settle_both.ensures.kept_a.20)
+    (c.table_cells-2.ensures ∙ ap cells c.settle_both.ensures.kept_b.20 ∙ ap (λ l. table_cells l b) c.requires.0.layout-is) in
+    sides-settled c.args.a.now c.args.b.now c.args.twelves.now c.requires.0 c.settle_both.new.a c.settle_both.new.b c.settle_both.ensures.kept_a c.settle_both.ensures.kept_b
+    (c.settle_both.ensures.value c.args.twelves.now) c.in_ok-settle_both.was most c.all_rounds.ensures.value

@@ -17,11 +17,11 @@ hand_over_in-requires c =
     let s = c in (
       subst Lays (sym c.ipv4.ensures) lays-ipv4,
       ap length
-          c.key_bytes-bytes.ensures ∙ length-key s.args.key ∙ ap
+          c.from-bytes.ensures ∙ length-key s.args.key ∙ ap
           (λ (x : Layout). x.key) (sym c.ipv4.ensures),
     )
 
 pub returns : goal.returns
 returns c =
     let M = memory c.args.filter.now (tab c.args.xors.now c.args.flows.now c.args.unknowns.now c.args.positions.now c.args.marks.now) c.args.packets.now (records c.args.keys.now c.args.counts.now c.args.flags.now) in
-    c.hand_over_in.ensures ∙ ap₂ (λ l k. hand_over l c.args.s k M) c.ipv4.ensures c.key_bytes-bytes.ensures
+    c.hand_over_in.ensures ∙ ap₂ (λ l k. hand_over l c.args.s k M) c.ipv4.ensures c.from-bytes.ensures

@@ -6,11 +6,7 @@ use Rattle.list.specs.Records.{records}
 use Rattle.table.specs.Table.{tab}
 use Rattle.room.specs.Memory.{memory}
 use Rattle.opening.specs.Open.{open_of}
-use borrow.Author.Rules.{rules}
 use Rattle.session.proofs.open.Goals as goal
-
-pub ipv4-requires : goal.ipv4-requires
-ipv4-requires c = search rules
 
 pub open_in-requires : goal.open_in-requires
 open_in-requires c = subst Lays (sym c.ipv4.ensures) lays-ipv4

@@ -1,35 +1,26 @@
 -- `session::report_in` meets its contract.
+use mathlib.Core.Path.{ap}
+use Rattle.std.proofs.lemmas.Result.{err_from_is_err_and}
 use Rattle.index.proofs.Index.{empty-zeros}
-use Rattle.list.specs.Records.{records}
-use Rattle.table.specs.Table.{tab}
-use Rattle.room.specs.Memory.{memory}
-use Rattle.session.proofs.Answers.{passes, flags-reach, report-not, report-room, report-passed}
+use Rattle.room.specs.Seen.{memory_seen}
+use Rattle.session.proofs.Answers.{passes, flags-reach, report-refused, report-passed, tests-of}
 use Rattle.session.proofs.report_in.Goals as goal
 
-pub after_salt-h-requires : goal.after_salt-h-requires
-after_salt-h-requires c = tt
+pub tested-requires : goal.tested-requires
+tested-requires c = (c.requires, empty-zeros)
 
-pub test-requires : goal.test-requires
-test-requires c = (c.requires, empty-zeros, c.after_salt-h.ensures)
-
-pub returns-in-NotSession : goal.returns-in-NotSession
-returns-in-NotSession c =
-    let M = memory c.args.filter.now (tab c.args.xors.now c.args.flows.now c.args.unknowns.now c.args.positions.now c.args.marks.now) c.args.packets.now (records c.args.keys.now c.args.counts.now c.args.flags.now) in
-    report-not c.args.l c.args.s M c.test.ensures.0 c.in-NotSession.is
-
-pub returns-in-BadRoom : goal.returns-in-BadRoom
-returns-in-BadRoom c =
-    let M = memory c.args.filter.now (tab c.args.xors.now c.args.flows.now c.args.unknowns.now c.args.positions.now c.args.marks.now) c.args.packets.now (records c.args.keys.now c.args.counts.now c.args.flags.now) in
-    report-room c.args.l c.args.s M c.test.ensures.0 c.in-BadRoom.is
+pub returns-in_err-tested : goal.returns-in_err-tested
+returns-in_err-tested c =
+    let p = err_from_is_err_and c.from_residual.result c.from_residual.ensures.1 in
+    let e = tests-of c.args.l c.args.s _ c.tested.ensures.test (ap memory_seen c.new-room.ensures) in
+    rw (p.1, p.2) (report-refused c.args.l c.args.s _ _ e _ c.in_err-tested.was)
 
 pub report_of-requires : goal.report_of-requires
 report_of-requires c =
-    let M = memory c.args.filter.now (tab c.args.xors.now c.args.flows.now c.args.unknowns.now c.args.positions.now c.args.marks.now) c.args.packets.now (records c.args.keys.now c.args.counts.now c.args.flags.now) in
-    flags-reach c.args.l c.args.s M c.requires
-    (passes c.args.l c.args.s M c.test.ensures.0 c.in-Passed.is)
+    let e = tests-of c.args.l c.args.s _ c.tested.ensures.test (ap memory_seen c.new-room.ensures) in
+    flags-reach c.args.l c.args.s _ c.requires (passes c.args.l c.args.s _ _ e c.in_ok-tested.was)
 
 pub returns : goal.returns
 returns c =
-    let M = memory c.args.filter.now (tab c.args.xors.now c.args.flows.now c.args.unknowns.now c.args.positions.now c.args.marks.now) c.args.packets.now (records c.args.keys.now c.args.counts.now c.args.flags.now) in
-    report-passed c.args.l c.args.s M c.test.ensures.0 c.in-Passed.is
-    c.report_of.ensures
+    let e = tests-of c.args.l c.args.s _ c.tested.ensures.test (ap memory_seen c.new-room.ensures) in
+    report-passed c.args.l c.args.s _ _ e c.in_ok-tested.was c.report_of.ensures

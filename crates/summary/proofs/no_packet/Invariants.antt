@@ -1,13 +1,9 @@
--- `summary::no_packet` meets its contract.
+-- `summary::no_packet`: what is ORed together is 0 just where all so far are.
 use mathlib.Core.Path.{◌≡◌}
-use Prim.Native.Nat.{◌-◌, ◌≤◌}
 use lib.Dec.{eqb}
-use lib.ListN.{length, get_or}
+use lib.ListN.{get_or}
 use Rattle.laws.specs.Upto.{all_upto}
 use Rattle.summary.proofs.no_packet.Given as goal
 
-abbrev pub invariant-loop-i : goal.invariant-loop-i
-invariant-loop-i l = (l.i ≤ length l.packets) × (eqb l.any 0 ≡ all_upto l.i (λ j. eqb (get_or l.packets j 0) 0))
-
-abbrev pub decreases-loop-i : goal.decreases-loop-i
-decreases-loop-i l = length l.packets - l.i
+abbrev pub invariant-loop-count : goal.invariant-loop-count
+invariant-loop-count l = eqb l.any 0 ≡ all_upto l.count-index (λ j. eqb (get_or l.packets j 0) 0)

@@ -1,32 +1,16 @@
 -- `hash::Fnv::bytes` meets its contract.
-use mathlib.Core.Path.{refl}
-use native.Mathlib.Omega.{arith}
-use borrow.Author.Rules.{rules}
-use Rattle.hash.proofs.Chain.{absorb-more, absorb-none}
+use mathlib.Core.Path.{refl, ◌∙◌}
+use Rattle.hash.specs.Fnv.{absorb}
+use Rattle.hash.proofs.Chain.{absorb-next, absorb-whole}
 use Rattle.hash.proofs.Fnv.bytes.Goals as goal
 
-pub loop-i-init : goal.loop-i-init
-loop-i-init c = (search rules, refl)
+pub loop-b-init : goal.loop-b-init
+unfolding absorb
+loop-b-init c = refl
 
-pub bounds-s-i : goal.bounds-s-i
-bounds-s-i c = omega arith
-
-pub byte-f-requires : goal.byte-f-requires
-byte-f-requires c = search rules
-
-pub overflow_add-i : goal.overflow_add-i
-overflow_add-i c = omega arith
-
-pub loop-i-smaller : goal.loop-i-smaller
-loop-i-smaller c = omega arith
-
-pub loop-i-preserved : goal.loop-i-preserved
-loop-i-preserved c = (
-  omega arith,
-  cc
-      (absorb-more c.loop-i.f.state c.args.s.now
-      c.loop-i.i (omega arith)),
-)
+pub loop-b-preserved : goal.loop-b-preserved
+loop-b-preserved c =
+    rw (c.byte-f.ensures, c.loop-b.invariant) (absorb-next c.args.self.state c.args.s.now c.loop-b.b-index c.loop-b-test.true)
 
 pub returns : goal.returns
-returns c = cc (absorb-none c.loop-i.f.state c.args.s.now c.loop-i.i (omega arith))
+returns c = c.loop-b.invariant ∙ absorb-whole c.args.self.state c.args.s.now c.loop-b.b-index c.loop-b-test.false

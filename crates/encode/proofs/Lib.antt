@@ -1,0 +1,2 @@
+-- That the longest buffers are long enough.
+pub mod Longest

@@ -1,0 +1,16 @@
+-- A number, and the byte after it.
+use Rattle.lines.specs.Text.{followed}
+use Rattle.lines.proofs.Lines.{holds-first, holds-next, adds-then}
+use Rattle.lines.proofs.Page.followed.Goals as goal
+
+pub decimal-requires : goal.decimal-requires
+unfolding followed
+decimal-requires c = holds-first _ _ c.requires
+
+pub byte-requires : goal.byte-requires
+unfolding followed
+byte-requires c = holds-next _ _ c.decimal.ensures c.requires
+
+pub returns : goal.returns
+unfolding followed
+returns c = adds-then c.decimal.ensures c.byte.ensures

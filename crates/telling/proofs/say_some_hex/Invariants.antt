@@ -1,9 +1,0 @@
--- `telling::say_some_hex` meets its contract.
-use Rattle.std.proofs.Common.{length, ◌-◌, ◌≤◌}
-use Rattle.telling.proofs.say_some_hex.Given as goal
-
-abbrev pub invariant-loop-i : goal.invariant-loop-i
-invariant-loop-i g l = (l.i ≤ length l.bytes) × (l.i ≤ 2048)
-
-abbrev pub decreases-loop-i : goal.decreases-loop-i
-decreases-loop-i g l = length l.bytes - l.i
