@@ -5,12 +5,16 @@ use mathlib.Core.Logic.{inl, inr}
 use Prim.Native.Nat.{ℕ, ◌*◌, ◌<◌, ◌≤◌}
 use native.Mathlib.Decide.{dec_lt}
 use native.Mathlib.Omega.{arith}
-use lib.ListN.{length, replicate}
+use lib.ListN.{length, replicate, length-replicate, drop, length-append, length-drop}
+use Rattle.laws.proofs.Upto.{length-list}
+use Rattle.laws.proofs.Rows.{length-join}
+use Rattle.packet.specs.Key.{key_bytes}
+use Rattle.packet.proofs.KeyBytes.{length-key}
 use Rattle.layout.specs.Sizes.{ipv4_layout}
 use Rattle.list.specs.Records.{Records, records, Room}
 use Rattle.room.specs.Memory.{Memory, memory}
 use Rattle.records.specs.declared.Record.{Record}
-use Rattle.records.specs.Record.{AllFit, apart, together, apart_upto, together_upto}
+use Rattle.records.specs.Record.{AllFit, at, flag_byte, apart, together, keys_upto, counts_upto, flags_upto, apart_upto, together_upto}
 use Rattle.records.proofs.Laws.{together-none}
 use Rattle.records.proofs.Trip.{apart-room, together-apart}
 use Rattle.calls.specs.Calls.{Arrays, Lent, lent, Ran, ran, Called, called, taken, first, over, over_first, over_records, as_numbers, as_records}
@@ -67,6 +71,29 @@ module _ (most : ℕ) {A : Type 0} (call : Memory → Ran A) (refused : A) (misf
 abbrev pub zeros : ℕ → Records
 zeros most = records (replicate (most * 13) 0) (replicate most 0) (replicate most 0)
 
+-- the arrays keep their lengths: where some records are taken apart, and where as many are written over them
+arrays-apart : (most k : ℕ) (list : List Record) → k ≤ most → Arrays most (apart_upto k list (zeros most))
+unfolding apart_upto keys_upto counts_upto flags_upto
+arrays-apart most k list h = record {
+  keys-fit = omega (
+    arith,
+    length-append (keys_upto k list) (drop (k * 13) (zeros most).keys),
+    length-drop (k * 13) (zeros most).keys,
+    length-replicate {A = ℕ} (most * 13) 0,
+    length-join k 13 (λ j. key_bytes (at list j).key) (λ j l. length-key (at list j).key),
+  );
+  counts-fit = omega (arith, length-append (counts_upto k list) (drop k (zeros most).counts), length-drop k (zeros most).counts, length-replicate {A = ℕ} most 0, length-list k (λ j. (at list j).count));
+  flags-fit = omega (arith, length-append (flags_upto k list) (drop k (zeros most).flags), length-drop k (zeros most).flags, length-replicate {A = ℕ} most 0, length-list k (λ j. flag_byte (at list j).known (at list j).handed));
+}
+
+arrays-over : (most k : ℕ) (new rs : Records) → k ≤ most → Room ipv4_layout k new → Arrays most rs → Arrays most (over k new rs)
+unfolding over
+arrays-over most k new rs h r a = record {
+  keys-fit = omega (arith, length-append new.keys (drop (k * 13) rs.keys), length-drop (k * 13) rs.keys, a.keys-fit, r.keys-fit);
+  counts-fit = omega (arith, length-append new.counts (drop k rs.counts), length-drop k rs.counts, a.counts-fit, r.counts-fit);
+  flags-fit = omega (arith, length-append new.flags (drop k rs.flags), length-drop k rs.flags, a.flags-fit, r.flags-fit);
+}
+
 module _ (most : ℕ) {A : Type 0} (call : Memory → Ran A) (refused : A) (misfit : (m : Memory) → Misfit most m.list → call m ≡ ran refused m)
     (m : Lent) {n k : ℕ} (whole : (n ≡ length m.list) × AllFit m.list) (some : k ≡ taken most n)
     (now : Records) (apart-is : now ≡ apart_upto k m.list (zeros most)) where
@@ -93,25 +120,23 @@ module _ (most : ℕ) {A : Type 0} (call : Memory → Ran A) (refused : A) (misf
   refused-many : most < length m.list → call (as_numbers m) ≡ ran refused (as_numbers m)
   refused-many h = misfit (as_numbers m) (inr (rw (apart-room m.list).counts-fit h))
 
+  -- as many as the arrays have room for, so that they keep their lengths
+  small : k ≤ most
+  small = elim (dec_lt most (length m.list)) [ yes h ↦ omega (arith, none h) | no h ↦ omega (arith, all (omega arith)) ]
+
+  arrays : Arrays most now
+  arrays = rw apart-is (arrays-apart most k m.list small)
+
   pub calls-records : (answer : A) (after : Memory) (list' : List Record) → Room ipv4_layout k after.list
       → ran answer after ≡ call before → list' ≡ together_upto k (over k after.list now) m.list
       → called answer (lent after.filter after.table after.packets list') ≡ over_records call m
-  unfolding over_records
-  calls-records answer after list' left e together-is = elim (dec_lt most (length m.list)) [
-    | no l ↦
-        let h : length m.list ≤ most = omega arith in
-        let g : ran answer after ≡ call (as_numbers m) = e ∙ ap call (before-few h) in
-        let back = (rw (all h) at together-is) ∙ together-over m.list after.list now (rw (all h) at left) in
-        ap (λ list. called answer (lent after.filter after.table after.packets list)) back
-        ∙ ap (λ (x : Ran A). called x.answer (as_records x.room)) g
-    | yes h ↦
-        let g : ran answer after ≡ ran refused before = e ∙ before-many h in
-        let same : list' ≡ m.list = (rw (none h) at together-is) ∙ sym (together-none (over 0 after.list now) m.list) in
-        ap (λ list. called answer (lent after.filter after.table after.packets list)) same
-        ∙ ap (λ (x : Ran A). called x.answer (lent x.room.filter x.room.table x.room.packets m.list)) g
-        ∙ ap (λ list. called refused (lent m.filter m.table m.packets list)) (sym (together-apart m.list whole.1))
-        ∙ ap (λ (x : Ran A). called x.answer (as_records x.room)) (sym (refused-many h))
-  ]
+  unfolding over_first
+  calls-records answer after list' left e together-is =
+      let wide : ran answer (memory after.filter after.table after.packets (over k after.list now)) ≡ over_first call k (memory m.filter m.table m.packets now) =
+      ap (λ (x : Ran A). widened k now x.answer x.room) e in
+      let kept = arrays-over most k after.list now small left arrays in
+      rebuilt most call refused misfit m (zeros most) now (memory after.filter after.table after.packets (over (taken most (length m.list)) after.list now)) answer list'
+      (rw taken_is at wide) (rw taken_is at apart-is) (rw taken_is at kept) arrays (rw taken_is at together-is) whole.1
 
   -- of a call that keeps all memory, the answer alone
   pub tells-records : (answer : A) → answer ≡ (call before).answer → answer ≡ (call (as_numbers m)).answer

@@ -34,16 +34,17 @@ enum Trouble {
     ZeroByte,
 }
 
+// The whole line: standard error is not buffered, and what is written in one piece stays together.
 impl fmt::Display for Trouble {
     fn fmt<W: fmt::Write>(&self, f: &mut fmt::Formatter<W>) -> fmt::Result {
         f.write_str(match self {
-            Trouble::Head => "want sizes, salt and slot",
-            Trouble::Sizes => "sizes out of range (3)",
-            Trouble::Room => "room (16)",
-            Trouble::Key => "a packet has no key (6)",
-            Trouble::Full => "a counter is full (7)",
-            Trouble::CutShort => "the last packet is cut short",
-            Trouble::ZeroByte => "a zero byte (3)",
+            Trouble::Head => "encode: want sizes, salt and slot\n",
+            Trouble::Sizes => "encode: sizes out of range (3)\n",
+            Trouble::Room => "encode: room (16)\n",
+            Trouble::Key => "encode: a packet has no key (6)\n",
+            Trouble::Full => "encode: a counter is full (7)\n",
+            Trouble::CutShort => "encode: the last packet is cut short\n",
+            Trouble::ZeroByte => "encode: a zero byte (3)\n",
         })
     }
 }
@@ -95,7 +96,7 @@ impl From<io::Error> for Failure {
 }
 
 fn say(said: &mut impl Write, trouble: Trouble) -> io::Result<()> {
-    writeln!(said, "encode: {trouble}")
+    write!(said, "{trouble}")
 }
 
 // How long filter, cells and image are: no longer than the program has room for.

@@ -6,6 +6,8 @@ use Rattle.encoder.proofs.StartError.number.Kinds as start-number-kinds
 use Rattle.encoder.proofs.StartError.number.Reads as start-number
 use Rattle.encoder.proofs.TakeError.number.Kinds as take-number-kinds
 use Rattle.encoder.proofs.TakeError.number.Reads as take-number
+use Rattle.encoder.proofs.TakeErrorFromStartError.from.Kinds as take-error-from-kinds
+use Rattle.encoder.proofs.TakeErrorFromStartError.from.Reads as take-error-from
 use Rattle.encoder.proofs.start.Kinds as start-kinds
 use Rattle.encoder.proofs.start.Reads as start
 use Rattle.encoder.proofs.take_key.Kinds as take-key-kinds
@@ -24,9 +26,15 @@ start-determined κs a p z z' ws ws' e e' =
     (ap (λ t. t.answer) (e ∙ sym e'), both refl (both (ap (λ t. t.filter) (e ∙ sym e')) (both (ap (λ t. t.cells) (e ∙ sym e')) refl)))
 
 pub take-key-determined : Determined _ take-key-kinds.ps take-key-kinds.r take-key.Asked take-key.Learnt
-take-key-determined κs a p z z' ws ws' e e' =
-    (ap (λ t. t.answer) (e ∙ sym e'), both refl (both (ap (λ t. t.filter) (e ∙ sym e')) (both (ap (λ t. t.cells) (e ∙ sym e')) refl)))
+take-key-determined κs a p z z' ws ws' e e' = (
+  ap (λ t. t.answer) (e ∙ sym e'),
+  both refl
+      (both refl (both refl (both (ap (λ t. t.filter) (e ∙ sym e')) (both (ap (λ t. t.cells) (e ∙ sym e')) refl)))),
+)
 
 pub packet-determined : Determined _ packet-kinds.ps packet-kinds.r packet.Asked packet.Learnt
 packet-determined κs a p z z' ws ws' e e' =
     (ap (λ t. t.answer) (e ∙ sym e'), both refl (both refl (both (ap (λ t. t.filter) (e ∙ sym e')) (both (ap (λ t. t.cells) (e ∙ sym e')) refl))))
+
+pub take-error-from-determined : Determined _ take-error-from-kinds.ps take-error-from-kinds.r take-error-from.Asked take-error-from.Learnt
+take-error-from-determined κs a p z z' ws ws' e e' = (e ∙ sym e', refl)

@@ -3,13 +3,13 @@
 #![tactic(auto)]
 
 ghost use Rattle.std.specs.Prelude.{◌≡◌, length, Err, MatchResult};
-ghost use Rattle.layout.specs.Sizes.{ipv4_layout};
+ghost use Rattle.layout.specs.Sizes.{Lays, Ranged, ipv4_layout};
 ghost use Rattle.cell.specs.Cell.{InTable};
 ghost use Rattle.encoder.specs.Loops.{InCells, any_full, take_each, Lends, LendsNot, RoomsFit};
 ghost use Rattle.encoder.specs.Encoder.{full_at, rooms_fit, start_number, take_number, take_error, taking, starting, start_of, offer_key, packet_of};
 
 use hash::{Cells, Placing};
-use layout::{Shape, Sizes};
+use layout::{Layout, Shape, Sizes};
 
 // Why starting is refused.
 #[derive(Clone, Copy, PartialEq, Eq)]
@@ -95,9 +95,9 @@ fn take_each(shape: Shape, cells: &mut [u8], at: Cells, new: bool, key: &[u8])
     }
 }
 
-// A packet of a key is taken, or refused since a counter is full: a new flow sets its bits. The key's length is the layout's.
+// A packet of a key whose places a value gives is taken, or refused since a counter is full: a new flow sets its bits.
 // Filter and cells stay two parameters, as the public calls have them: a struct of both would be made for this one function.
-pub fn take_key(
+fn take_placed(
     placing: Placing,
     filter: &mut [u8],
     cells: &mut [u8],
@@ -120,6 +120,26 @@ pub fn take_key(
     }
     take_each(shape, cells, at, new, key);
     Ok(())
+}
+
+// A packet of a key is taken, or refused since a counter is full. The key's length is the layout's.
+pub fn take_key(
+    l: Layout,
+    z: Sizes,
+    salt: u32,
+    filter: &mut [u8],
+    cells: &mut [u8],
+    key: &[u8],
+) -> Result<(), TakeError>
+    requires { Lays l × Ranged z × RoomsFit l z (length filter.old) (length cells.old) × (length key.now ≡ l.key) }
+    ensures { taking result filter.new cells.new
+        ≡ offer_key l z salt key.now filter.old cells.old }
+{
+    let shape = Shape {
+        layout: l,
+        sizes: z,
+    };
+    take_placed(Placing::new(shape, salt), filter, cells, key)
 }
 
 // Whether filter and cells are lent in the lengths that the sizes give.
@@ -165,11 +185,9 @@ pub fn packet(
         ≡ packet_of z salt packet.now filter.old cells.old }
 {
     let shape = lent_shape(z, filter.len(), cells.len())?;
-    let key = packet::key_of(packet).ok_or(TakeError::NoKey)?;
-    take_key(
-        Placing::new(shape, salt),
-        filter,
-        cells,
-        &<[u8; 13]>::from(key),
-    )
+    let Some(key) = packet::key_of(packet) else {
+        return Err(TakeError::NoKey);
+    };
+    let bytes = <[u8; 13]>::from(key);
+    take_key(shape.layout, z, salt, filter, cells, &bytes)
 }

@@ -14,6 +14,8 @@ use Rattle.fields.proofs.xor_in.Kinds as xor-in-kinds
 use Rattle.fields.proofs.xor_in.Reads as xor-in
 use Rattle.fields.proofs.xor_at.Kinds as xor-at-kinds
 use Rattle.fields.proofs.xor_at.Reads as xor-at
+use Rattle.fields.proofs.copy_in.Kinds as copy-in-kinds
+use Rattle.fields.proofs.copy_in.Reads as copy-in
 use Rattle.fields.proofs.is_zero.Kinds as is-zero-kinds
 use Rattle.fields.proofs.is_zero.Reads as is_zero
 
@@ -34,6 +36,9 @@ xor-in-determined κs a p z z' ws ws' e e' = (refl, both (e ∙ sym e') refl)
 
 pub xor-at-determined : Determined _ xor-at-kinds.ps xor-at-kinds.r xor-at.Asked xor-at.Learnt
 xor-at-determined κs a p z z' ws ws' e e' = (refl, both (e ∙ sym e') refl)
+
+pub copy-in-determined : Determined _ copy-in-kinds.ps copy-in-kinds.r copy-in.Asked copy-in.Learnt
+copy-in-determined κs a p z z' ws ws' e e' = (refl, both (e ∙ sym e') refl)
 
 pub is-zero-determined : Determined _ is-zero-kinds.ps is-zero-kinds.r is_zero.Asked is_zero.Learnt
 is-zero-determined κs a p z z' ws ws' e e' = (e ∙ sym e', refl)

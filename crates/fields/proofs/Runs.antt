@@ -41,3 +41,14 @@ part-xored s bytes at {k} {new} h q f =
     let new_is : new ≡ xor_bytes part bytes = f ∙ ap (λ m. xor_bytes (take m (drop at s)) bytes) q in
     let e = xor_bytes-length part bytes (length bytes) (length_part s at (length bytes) h) refl in
     rw new_is (lent-sets (xor_bytes part bytes) s at k (e ∙ sym q) (omega (arith, q, h)))
+
+-- the first k bytes copied
+pub copy-turn : (k : ℕ) (s bytes : List ℕ) → k < length s → k < length bytes
+    → set (take k bytes ++ drop k s) k (get_or bytes k 0) ≡ take (suc k) bytes ++ drop (suc k) s
+copy-turn k [] bytes p q = absurd (omega arith)
+copy-turn k (x ∷ s) [] p q = absurd (omega arith)
+copy-turn zero (x ∷ s) (y ∷ bytes) p q = refl
+copy-turn (suc k) (x ∷ s) (y ∷ bytes) p q = ap (y ∷◌) (copy-turn k s bytes (le_of_suc-le-suc p) (le_of_suc-le-suc q))
+
+pub copy-whole : (k : ℕ) (s bytes : List ℕ) → length s ≤ k → length bytes ≤ k → take k bytes ++ drop k s ≡ bytes
+copy-whole k s bytes p q = rw (take_all k bytes q, drop_of_length-le s p) (append-nil bytes)

@@ -58,6 +58,17 @@ pub fn xor_at(s: &mut [u8], at: usize, bytes: &[u8])
     xor_in(&mut s[at..at + bytes.len()], bytes);
 }
 
+// Copies a run of bytes over another of its length. By this loop and not by std's `copy_from_slice`, which makes the archive for C ask for `memmove` where the
+// length is not known beforehand.
+pub fn copy_in(s: &mut [u8], bytes: &[u8])
+    requires { length s.old ≡ length bytes.now }
+    ensures { s.new ≡ bytes.now }
+{
+    for (i, byte) in bytes.iter().enumerate() {
+        s[i] = *byte;
+    }
+}
+
 // Whether every byte is zero. They are ORed together: a way out at the first other one would cost a branch for each.
 pub fn is_zero(s: &[u8]) -> bool
     ensures { result ≡ all_zero s.now }

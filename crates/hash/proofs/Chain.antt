@@ -1,13 +1,13 @@
 -- Absorbing byte by byte; a place is below n.
-use mathlib.Core.Path.{◌≡◌, refl, sym, ap, ap₂, ◌∙◌}
+use mathlib.Core.Path.{◌≡◌, refl, sym, ap, ◌∙◌}
 use mathlib.Core.List.{List, [], ◌∷◌, ◌++◌}
-use Prim.Native.Nat.{ℕ, ◌+◌, ◌*◌, ◌^◌, ◌<◌, ◌≤◌}
+use Prim.Native.Nat.{ℕ, zero, suc, ◌+◌, ◌*◌, ◌^◌, ◌<◌, ◌≤◌}
 use native.Mathlib.Nat.{mul_comm, div-lt_iff_lt-mul, mul-lt-mul_of_pos_right, mul-le-mul}
 use native.Mathlib.Numerals.{add-one}
 use native.Mathlib.Omega.{arith}
-use lib.ListN.{length, take, get_or, replicate}
+use lib.ListN.{length, take, get_or}
 use lib.Seq.{take-suc}
-use Rattle.std.proofs.lemmas.List.{take_all, get_or-replicate}
+use Rattle.std.proofs.lemmas.List.{take_all}
 use lib.Bits.{bit_xor}
 use lib.Pow.{pow_pos}
 use Rattle.laws.specs.BigEndian.{bytes_of}
@@ -101,39 +101,59 @@ pub chain-after : (salt role i : ℕ) (key : List ℕ) {h a b : ℕ} → h ≡ a
 unfolding hash_after absorb
 chain-after salt role i key e p q = rw (q, p, e) (hash-after salt role i key)
 
--- chains that each have their index, and then a key byte by byte
-pub chains-begin : (n h : ℕ) (key : List ℕ) {hs : List ℕ} → hs ≡ list_upto n (step h) → hs ≡ list_upto n (λ i. hash_after h i (take 0 key))
-unfolding hash_after absorb
-chains-begin n h key e = e
+-- chains with a list absorbed: of a function's values
+all-append : (hs gs s : List ℕ) → absorb_all (hs ++ gs) s ≡ absorb_all hs s ++ absorb_all gs s
+unfolding absorb_all
+all-append [] gs s = refl
+all-append (h ∷ hs) gs s = ap (absorb h s ∷◌) (all-append hs gs s)
 
-pub chains-on : (n h : ℕ) (key : List ℕ) (k : ℕ) {hs next : List ℕ} → k < length key → hs ≡ list_upto n (λ i. hash_after h i (take k key))
-    → next ≡ list_upto n (λ i. step (get_or hs i 0) (get_or (replicate n (get_or key k 0)) i 0))
-    → next ≡ list_upto n (λ i. hash_after h i (take (k + 1) key))
-unfolding hash_after absorb
-chains-on n h key k {hs} p e f =
-    f
-    ∙ list_same n (λ i. step (get_or hs i 0) (get_or (replicate n (get_or key k 0)) i 0)) (λ i. hash_after h i (take (k + 1) key))
+pub all-upto : (n : ℕ) (f : ℕ → ℕ) (s : List ℕ) → absorb_all (list_upto n f) s ≡ list_upto n (λ i. absorb (f i) s)
+unfolding list_upto absorb_all
+all-upto zero f s = refl
+all-upto (suc n) f s = all-append (list_upto n f) (f n ∷ []) s ∙ ap (λ hs. hs ++ (absorb (f n) s ∷ [])) (all-upto n f s)
+
+-- chains that have absorbed as much of a key: nothing of it, and one byte more
+pub chains-begin : (n : ℕ) (f : ℕ → ℕ) (key : List ℕ) {hs : List ℕ} → hs ≡ list_upto n f → hs ≡ absorb_all (list_upto n f) (take 0 key)
+unfolding absorb
+chains-begin n f key e = e ∙ sym (all-upto n f [])
+
+pub chains-on : (n : ℕ) (f : ℕ → ℕ) (key : List ℕ) (k : ℕ) {hs next : List ℕ} → k < length key → hs ≡ absorb_all (list_upto n f) (take k key)
+    → next ≡ list_upto n (λ i. step (get_or hs i 0) (get_or key k 0))
+    → next ≡ absorb_all (list_upto n f) (take (k + 1) key)
+chains-on n f key k {hs} p e r =
+    r
+    ∙ list_same n (λ i. step (get_or hs i 0) (get_or key k 0)) (λ i. absorb (f i) (take (k + 1) key))
     (λ i l.
-    ap₂ step (ap (λ s. get_or s i 0) e ∙ list_at n (λ j. hash_after h j (take k key)) 0 i l) (get_or-replicate n i (get_or key k 0) 0 l)
-    ∙ absorb-next (step h i) key k p)
+    ap (λ h. step h (get_or key k 0)) (ap (λ s. get_or s i 0) (e ∙ all-upto n f (take k key)) ∙ list_at n (λ j. absorb (f j) (take k key)) 0 i l)
+    ∙ absorb-next (f i) key k p)
+    ∙ sym (all-upto n f (take (k + 1) key))
 
-pub chains-end : (n h : ℕ) (key : List ℕ) (k : ℕ) {hs : List ℕ} → length key ≤ k → hs ≡ list_upto n (λ i. hash_after h i (take k key))
+-- chains that each have an index, with the key absorbed, are hashes
+pub all-hashed : (n h first : ℕ) (key : List ℕ) {hs : List ℕ} → hs ≡ list_upto n (λ i. step h (first + i))
+    → absorb_all hs key ≡ list_upto n (λ i. hash_after h (first + i) key)
+unfolding hash_after absorb
+all-hashed n h first key e = ap (λ hs. absorb_all hs key) e ∙ all-upto n (λ i. step h (first + i)) key
+
+-- from the first index on, and with the whole key
+pub chains-end : (n h : ℕ) (key : List ℕ) (k : ℕ) {hs : List ℕ} → length key ≤ k → hs ≡ absorb_all (list_upto n (step h)) (take k key)
     → hs ≡ list_upto n (λ i. hash_after h i key)
-chains-end n h key k p e = e ∙ ap (λ s. list_upto n (λ i. hash_after h i s)) (take_all k key p)
+chains-end n h key k p e =
+    let from : (i : ℕ) → 0 + i ≡ i = λ i. omega arith in
+    e
+    ∙ ap (absorb_all (list_upto n (step h))) (take_all k key p)
+    ∙ all-hashed n h 0 key (list_same n _ _ (λ i l. ap (step h) (sym (from i))))
+    ∙ list_same n _ _ (λ i l. ap (λ j. hash_after h j key) (from i))
 
--- which are 01's, from the state after salt and role
-pub hashes_after : (n salt role : ℕ) (key : List ℕ) {h : ℕ} {hs : List ℕ} → h ≡ after_role salt role
-    → hs ≡ list_upto n (λ i. hash_after h i key)
-    → hs ≡ list_upto n (λ i. hash_of salt role i key)
-hashes_after n salt role key e f = f ∙ list_same n _ _ (λ i l. rw e (hash-after salt role i key))
-
--- chains from any index on: four with the key absorbed are four hashes, and n of them are 01's
-pub all-hashed : (h first : ℕ) (key : List ℕ) {hs : List ℕ} → hs ≡ list_upto 4 (λ i. step h (first + i))
-    → absorb_all hs key ≡ list_upto 4 (λ i. hash_after h (first + i) key)
-unfolding list_upto absorb_all hash_after absorb
-all-hashed h first key e = ap (λ hs. absorb_all hs key) e
-
+-- which are 01's, from the state after salt and role; of chains from any index on, and from the first
 pub all_after : (n salt role first : ℕ) (key : List ℕ) {h : ℕ} {hs : List ℕ} → h ≡ after_role salt role
     → hs ≡ list_upto n (λ i. hash_after h (first + i) key)
     → hs ≡ list_upto n (λ i. hash_of salt role (first + i) key)
 all_after n salt role first key e f = f ∙ list_same n _ _ (λ i l. rw e (hash-after salt role (first + i) key))
+
+pub hashes_after : (n salt role : ℕ) (key : List ℕ) {h : ℕ} {hs : List ℕ} → h ≡ after_role salt role
+    → hs ≡ list_upto n (λ i. hash_after h i key)
+    → hs ≡ list_upto n (λ i. hash_of salt role i key)
+hashes_after n salt role key {h} e f =
+    let from : (i : ℕ) → 0 + i ≡ i = λ i. omega arith in
+    all_after n salt role 0 key e (f ∙ list_same n _ _ (λ i l. ap (λ j. hash_after h j key) (sym (from i))))
+    ∙ list_same n _ _ (λ i l. ap (λ j. hash_of salt role j key) (from i))

@@ -70,6 +70,22 @@ fn step_each<const N: usize>(states: [u32; N], bytes: [u8; N]) -> [u32; N]
     next
 }
 
+// Each chain takes the same byte. Four are left as `step_each` has them: the compiler then steps them one by one, which waits less than a multiply of four
+// lanes. Eight are not: it would make one word of eight equal bytes and take that apart again at each step.
+fn step_all<const N: usize>(states: [u32; N], b: u8) -> [u32; N]
+    ensures { result ≡ list_upto N (λ i. step (slice_index states.entry i) b) }
+{
+    if N <= 4 {
+        return step_each(states, [b; N]);
+    }
+    let mut next = [0; N];
+    for i in 0..N {
+        let chain = Fnv { state: states[i] };
+        next[i] = chain.byte(b).state;
+    }
+    next
+}
+
 // FNV-1a of four slices of one length.
 pub fn fnv_of_four(a: &[u8], b: &[u8], c: &[u8], d: &[u8]) -> [u32; 4]
     requires { (length b.now ≡ length a.now) × (length c.now ≡ length a.now) × (length d.now ≡ length a.now) }
@@ -121,7 +137,7 @@ fn hashes<const N: usize>(f: Fnv, key: &[u8]) -> [u32; N]
 {
     let mut states = indexed::<N>(f);
     for &b in key {
-        let next = step_each(states, [b; N]);
+        let next = step_all(states, b);
         states = next;
     }
     states

@@ -167,3 +167,7 @@ head-le slot salt r a b c d e =
 
 pub refused-le : (n : ℕ) → n < 2 ^ 32 → length (refused_line n) ≤ 19
 refused-le n h = omega (arith, length-refused n, followed-le 10 n feed (omega arith) (omega arith) (omega arith))
+
+-- and of one of at most three digits
+pub refused-short : (n : ℕ) → n < 256 → length (refused_line n) ≤ 12
+refused-short n h = omega (arith, length-refused n, followed-le 3 n feed (omega arith) (omega arith) (omega arith))

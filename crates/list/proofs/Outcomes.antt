@@ -9,6 +9,8 @@ use Rattle.list.proofs.key_at.Kinds as key-at-kinds
 use Rattle.list.proofs.key_at.Reads as key-at
 use Rattle.list.proofs.key_is.Kinds as key-is-kinds
 use Rattle.list.proofs.key_is.Reads as key-is
+use Rattle.list.proofs.Found.key.Kinds as found-key-kinds
+use Rattle.list.proofs.Found.key.Reads as found-key
 use Rattle.list.proofs.Found.append.Kinds as found-append-kinds
 use Rattle.list.proofs.Found.append.Reads as found-append
 use Rattle.list.proofs.set_count.Kinds as set-count-kinds
@@ -23,6 +25,13 @@ pub key-at-determined : (κs : Lfts 1) (a : Dens κs key-at-kinds.ps) → key-at
     → key-at.Learnt κs a z (at_exit (ended_of 1 key-at-kinds.ps key-at-kinds.r) κs a ws)
     → key-at.Learnt κs a z' (at_exit (ended_of 1 key-at-kinds.ps key-at-kinds.r) κs a ws') → (z.now ≡ z'.now) × (ws ≡ ws')
 key-at-determined κs a p z z' ws ws' e e' = (e ∙ sym e', refl)
+
+pub found-key-determined : (κs : Lfts 2) (a : Dens κs found-key-kinds.ps) → found-key.Asked κs a
+    → (z z' : (res_t found-key-kinds.r κs).Denot)
+    (ws ws' : Lasts (ended_of 2 found-key-kinds.ps found-key-kinds.r) κs a)
+    → found-key.Learnt κs a z (at_exit (ended_of 2 found-key-kinds.ps found-key-kinds.r) κs a ws)
+    → found-key.Learnt κs a z' (at_exit (ended_of 2 found-key-kinds.ps found-key-kinds.r) κs a ws') → (z.now ≡ z'.now) × (ws ≡ ws')
+found-key-determined κs a p z z' ws ws' e e' = (e ∙ sym e', refl)
 
 pub key-is-determined : Determined _ key-is-kinds.ps key-is-kinds.r key-is.Asked key-is.Learnt
 key-is-determined κs a p z z' ws ws' e e' = (e ∙ sym e', refl)

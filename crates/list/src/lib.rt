@@ -60,7 +60,7 @@ impl Found<'_> {
     {
         let a = n * l.key;
         let e = a + l.key;
-        self.keys[a..e].copy_from_slice(key);
+        fields::copy_in(&mut self.keys[a..e], key);
         self.counts[n] = 0;
         self.flags[n] = flag;
     }

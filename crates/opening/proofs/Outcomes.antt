@@ -7,6 +7,8 @@ use Rattle.opening.proofs.OpenError.number.Kinds as number-kinds
 use Rattle.opening.proofs.OpenError.number.Reads as number
 use Rattle.opening.proofs.OpenError.block.Kinds as block-kinds
 use Rattle.opening.proofs.OpenError.block.Reads as block
+use Rattle.opening.proofs.OpenErrorFromReadError.from.Kinds as open-error-from-kinds
+use Rattle.opening.proofs.OpenErrorFromReadError.from.Reads as open-error-from
 use Rattle.opening.proofs.open_in.Kinds as open-in-kinds
 use Rattle.opening.proofs.open_in.Reads as open_in
 
@@ -32,3 +34,6 @@ open-in-determined κs a p z z' ws ws' e e' = let f = e ∙ sym e' in (
       (both (ap (λ (x : Opening). x.room.list.counts) f)
       (both (ap (λ (x : Opening). x.room.list.flags) f) refl)))))))))))),
 )
+
+pub open-error-from-determined : Determined _ open-error-from-kinds.ps open-error-from-kinds.r open-error-from.Asked open-error-from.Learnt
+open-error-from-determined κs a p z z' ws ws' e e' = (e ∙ sym e', refl)

@@ -68,7 +68,7 @@ fn copy_filter(shape: Shape, image: &[u8], filter: &mut [u8])
     for n in 0..shape.sizes.f {
         let to = n * 480;
         let from = n * 512 + 16;
-        filter[to..to + 480].copy_from_slice(&image[from..from + 480]);
+        fields::copy_in(&mut filter[to..to + 480], &image[from..from + 480]);
     }
 }
 
@@ -95,7 +95,7 @@ fn copy_cell(
     let end = to + shape.layout.key;
     let from = d * shape.layout.cell;
     let stop = from + shape.layout.key;
-    xors[to..end].copy_from_slice(&payload[from..stop]);
+    fields::copy_in(&mut xors[to..end], &payload[from..stop]);
     flows[c] = cell::flow_count(shape.layout, payload, d);
     packets[c] = cell::packet_count(shape.layout, payload, d);
 }

@@ -1,17 +1,26 @@
--- Causes for which a packet is refused, with which number, and what one that is not refused has room for.
+-- When a packet has ports, when it is refused and with which number, and what one that is not refused has room for.
 use mathlib.Core.Path.{◌≡◌}
-use mathlib.Core.Logic.{inl, inr}
-use mathlib.Core.Bool.{true, false, or-true}
+use mathlib.Core.Logic.{◌⊎◌, inl, inr}
+use mathlib.Core.Bool.{true, false, ◌&&◌, or-true}
 use mathlib.Core.List.{List}
 use Prim.Native.Nat.{ℕ, ◌+◌, ◌-◌, ◌≤◌, ◌<◌}
 use native.Mathlib.Omega.{arith}
-use borrow.Author.Tests.{lt-ltb, ne_eqb, ltb-true, ltb-false}
-use lib.Dec.{ltb}
+use borrow.Author.Tests.{lt-ltb, le-ltb, eq-eqb, ne_eqb, ltb-true, ltb-false}
+use lib.Dec.{eqb, ltb}
 use lib.ListN.{length}
-use Rattle.laws.proofs.Bools.{split, clash}
-use Rattle.packet.specs.Packet.{version, header_words, header_bytes, has_ports, refused, key_of, number}
+use Rattle.laws.proofs.Bools.{split, clash, and-t, and-f}
+use Rattle.packet.specs.Packet.{version, header_words, header_bytes, protocol, fragment_offset, has_ports, refused, key_of, number}
 
 module _ (p : List ℕ) where
+  pub ports-first : (protocol p ≡ 6) ⊎ (protocol p ≡ 17) → has_ports p ≡ eqb (fragment_offset p) 0
+  unfolding has_ports
+  ports-first (inl e) = rw e
+  ports-first (inr e) = rw e
+
+  pub ports-none : (protocol p ≡ 6 → ⊥) → (protocol p ≡ 17 → ⊥) → has_ports p ≡ false
+  unfolding has_ports
+  ports-none e f = rw (ne_eqb (protocol p) 6 e, ne_eqb (protocol p) 17 f)
+
   -- the causes, one by one
   pub under-20 : length p < 20 → refused p ≡ true
   unfolding refused
@@ -32,6 +41,19 @@ module _ (p : List ℕ) where
   pub no-ports : length p - header_bytes p < 4 → has_ports p ≡ true → refused p ≡ true
   unfolding refused
   no-ports h e = rw (e, lt-ltb (length p - header_bytes p) 4 h) (simp or-true)
+
+  -- where the first four causes do not hold, the last decides
+  module _ (a : 20 ≤ length p) (b : version p ≡ 4) (c : 20 ≤ header_bytes p) (d : header_bytes p ≤ length p) where
+    last-cause : refused p ≡ (has_ports p && ltb (length p - header_bytes p) 4)
+    unfolding refused header_bytes
+    last-cause =
+        rw (le-ltb (length p) 20 a, eq-eqb (version p) 4 b, le-ltb (header_words p) 5 (omega arith), le-ltb (length p) (header_bytes p) d)
+
+    pub ports-decide : length p - header_bytes p < 4 → refused p ≡ has_ports p
+    ports-decide h = rw (last-cause, lt-ltb (length p - header_bytes p) 4 h) (and-t (has_ports p))
+
+    pub no-cause : 4 ≤ length p - header_bytes p → refused p ≡ false
+    no-cause h = rw (last-cause, le-ltb (length p - header_bytes p) 4 h) (and-f (has_ports p))
 
   -- a packet that is not refused
   kept : (a b : ℕ) → (a < b → refused p ≡ true) → refused p ≡ false → b ≤ a

@@ -5,6 +5,7 @@ use Prim.Native.Nat.{ℕ, zero, suc, ◌+◌, ◌≤◌, ◌<◌}
 use native.Mathlib.Omega.{arith}
 use lib.ListN.{length}
 use Rattle.laws.specs.Upto.{each_upto}
+use Rattle.laws.proofs.Upto.{each_same}
 use Rattle.layout.specs.declared.Layout.{Layout}
 use Rattle.layout.specs.declared.Sizes.{Sizes}
 use Rattle.layout.specs.Sizes.{filter_bytes}
@@ -103,3 +104,16 @@ module _ (l : Layout) (z : Sizes) (salt : ℕ) (filter keys : List ℕ) (m : ℕ
     pub keys-ready : Ready l z salt filter g → Ready l z salt filter (hand_keys l w filter keys m g)
     unfolding hand_keys
     keys-ready r = ready-upto r m (omega arith)
+
+alike_at : (l : Layout) (w : Switch) (filter ks ks' : List ℕ) (m : ℕ) → ((i : ℕ) → i < m → key_at l ks i ≡ key_at l ks' i)
+    → (i : ℕ) (g : Given) → i < m → hand_at l w filter ks i g ≡ hand_at l w filter ks' i g
+unfolding hand_at
+alike_at l w filter ks ks' m h i g q =
+    ap (λ key. after_hand g (hand_of l w.sizes w.salt g.listed key filter g.table g.list g.seen)) (h i q)
+
+-- keys that agree are handed over alike
+pub keys-alike : (l : Layout) (w : Switch) (filter ks ks' : List ℕ) (m : ℕ) (g : Given) → ((i : ℕ) → i < m → key_at l ks i ≡ key_at l ks' i)
+    → hand_keys l w filter ks m g ≡ hand_keys l w filter ks' m g
+unfolding hand_keys
+keys-alike l w filter ks ks' m g h =
+    each_same m (hand_at l w filter ks) (hand_at l w filter ks') g (alike_at l w filter ks ks' m h)

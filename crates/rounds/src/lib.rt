@@ -64,19 +64,20 @@ fn all_rounds(
     Ok(())
 }
 
-// Settles both, then goes through the rounds. The answers 12 are counted, from none on.
+// Settles both, then goes through the rounds. The answers 12 are counted from none on, whatever stood in their count.
 pub fn exchange_sides(
     a: &mut Part<'_>,
     b: &mut Part<'_>,
     twelves: &mut usize,
 ) -> Result<(), Stopped>
-    requires { Meets a.old b.old × (twelves.old ≡ 0) }
+    requires { Meets a.old b.old }
     ensures value { ended result (pair_in a.new b.new twelves.new)
-        ≡ exchange_sides a.old.placing.shape.layout (switch_in a.old) a.old.filter.now (switch_in b.old) b.old.filter.now (pair_in a.old b.old twelves.old) }
+        ≡ exchange_sides a.old.placing.shape.layout (switch_in a.old) a.old.filter.now (switch_in b.old) b.old.filter.now (pair_in a.old b.old 0) }
     ensures kept_a { PartKept a.new a.old }
     ensures kept_b { PartKept b.new b.old }
     ensures few { twelves.new ≤ 37754880 }
 {
+    *twelves = 0;
     settle_both(a, b)?;
     let most = 2 * a.placing.shape.table_cells() + 2 * b.placing.shape.table_cells() + 1;
     all_rounds(a, b, most, twelves)

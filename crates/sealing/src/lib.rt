@@ -92,7 +92,7 @@ fn put_payload(rest: &mut [u8], bytes: &[u8])
     ensures { rest.new ≡ padded bytes.now ++ drop 480 rest.old }
 {
     let n = bytes.len();
-    rest[..n].copy_from_slice(bytes);
+    fields::copy_in(&mut rest[..n], bytes);
     rest[n..480].fill(0);
 }
 

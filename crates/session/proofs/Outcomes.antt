@@ -27,6 +27,14 @@ use Rattle.session.proofs.HandOverError.number.Kinds as hand-over-error-number-k
 use Rattle.session.proofs.HandOverError.number.Reads as hand-over-error-number
 use Rattle.session.proofs.SettleError.number.Kinds as settle-error-number-kinds
 use Rattle.session.proofs.SettleError.number.Reads as settle-error-number
+use Rattle.session.proofs.HandOverErrorFromSessionError.from.Kinds as hand-over-from-session-kinds
+use Rattle.session.proofs.HandOverErrorFromSessionError.from.Reads as hand-over-from-session
+use Rattle.session.proofs.HandOverErrorFromHandError.from.Kinds as hand-over-from-hand-kinds
+use Rattle.session.proofs.HandOverErrorFromHandError.from.Reads as hand-over-from-hand
+use Rattle.session.proofs.SettleErrorFromSessionError.from.Kinds as settle-from-session-kinds
+use Rattle.session.proofs.SettleErrorFromSessionError.from.Reads as settle-from-session
+use Rattle.session.proofs.SettleErrorFromDamage.from.Kinds as settle-from-damage-kinds
+use Rattle.session.proofs.SettleErrorFromDamage.from.Reads as settle-from-damage
 
 pub report-determined : Determined _ report-kinds.ps report-kinds.r report.Asked report.Learnt
 report-determined κs a p z z' ws ws' e e' = (e ∙ sym e', refl)
@@ -78,3 +86,15 @@ hand-over-error-number-determined κs a p z z' ws ws' e e' = (e ∙ sym e', refl
 
 pub settle-error-number-determined : Determined _ settle-error-number-kinds.ps settle-error-number-kinds.r settle-error-number.Asked settle-error-number.Learnt
 settle-error-number-determined κs a p z z' ws ws' e e' = (e ∙ sym e', refl)
+
+pub hand-over-from-session-determined : Determined _ hand-over-from-session-kinds.ps hand-over-from-session-kinds.r hand-over-from-session.Asked hand-over-from-session.Learnt
+hand-over-from-session-determined κs a p z z' ws ws' e e' = (e ∙ sym e', refl)
+
+pub hand-over-from-hand-determined : Determined _ hand-over-from-hand-kinds.ps hand-over-from-hand-kinds.r hand-over-from-hand.Asked hand-over-from-hand.Learnt
+hand-over-from-hand-determined κs a p z z' ws ws' e e' = (e ∙ sym e', refl)
+
+pub settle-from-session-determined : Determined _ settle-from-session-kinds.ps settle-from-session-kinds.r settle-from-session.Asked settle-from-session.Learnt
+settle-from-session-determined κs a p z z' ws ws' e e' = (e ∙ sym e', refl)
+
+pub settle-from-damage-determined : Determined _ settle-from-damage-kinds.ps settle-from-damage-kinds.r settle-from-damage.Asked settle-from-damage.Learnt
+settle-from-damage-determined κs a p z z' ws ws' e e' = (e ∙ sym e', refl)

@@ -1,2 +1,3 @@
--- What one read adds to what was read before.
+-- What one read adds to what was read before; that outcomes are determined.
+pub mod Outcomes
 mod Turn

@@ -1,7 +1,16 @@
 -- Any two outcomes that the contract of a public function allows are identical. The contracts are those of src/, as the checker reads them.
+use borrow.Fn.Kinds.{Dens, res_t, ended_of}
+use contract.Lifetimes.{Lfts}
+use denote.Triple.Clauses.{Lasts, at_exit}
 use Rattle.std.proofs.Common.{◌≡◌, sym, refl, ap, ◌∙◌}
 use Rattle.laws.specs.Outcomes.{Determined}
 use Rattle.laws.proofs.Outcomes.{both, same_reference}
+use Rattle.table.proofs.Table.first_mark.Kinds as first-mark-kinds
+use Rattle.table.proofs.Table.first_mark.Reads as first-mark
+use Rattle.table.proofs.Table.key.Kinds as key-kinds
+use Rattle.table.proofs.Table.key.Reads as key
+use Rattle.table.proofs.Table.any_empty.Kinds as table-any-empty-kinds
+use Rattle.table.proofs.Table.any_empty.Reads as table-any-empty
 use Rattle.table.proofs.Table.is_pure.Kinds as table-is-pure-kinds
 use Rattle.table.proofs.Table.is_pure.Reads as table-is-pure
 use Rattle.table.proofs.is_pure.Kinds as is-pure-kinds
@@ -34,3 +43,16 @@ any-empty-determined κs a p z z' ws ws' e e' = (e ∙ sym e', refl)
 
 pub table-is-pure-determined : Determined _ table-is-pure-kinds.ps table-is-pure-kinds.r table-is-pure.Asked table-is-pure.Learnt
 table-is-pure-determined κs a p z z' ws ws' e e' = (e ∙ sym e', refl)
+
+pub table-any-empty-determined : Determined _ table-any-empty-kinds.ps table-any-empty-kinds.r table-any-empty.Asked table-any-empty.Learnt
+table-any-empty-determined κs a p z z' ws ws' e e' = (e ∙ sym e', refl)
+
+pub table-first-mark-determined : Determined _ first-mark-kinds.ps first-mark-kinds.r first-mark.Asked first-mark.Learnt
+table-first-mark-determined κs a p z z' ws ws' e e' = (e ∙ sym e', refl)
+
+-- a part that is lent: what it shows
+pub table-key-determined : (κs : Lfts 2) (a : Dens κs key-kinds.ps) → key.Asked κs a → (z z' : (res_t key-kinds.r κs).Denot)
+    (ws ws' : Lasts (ended_of 2 key-kinds.ps key-kinds.r) κs a)
+    → key.Learnt κs a z (at_exit (ended_of 2 key-kinds.ps key-kinds.r) κs a ws)
+    → key.Learnt κs a z' (at_exit (ended_of 2 key-kinds.ps key-kinds.r) κs a ws') → (z.now ≡ z'.now) × (ws ≡ ws')
+table-key-determined κs a p z z' ws ws' e e' = (e ∙ sym e', refl)

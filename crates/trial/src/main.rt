@@ -31,12 +31,13 @@ enum Unanswered {
     Mode,
 }
 
+// The whole line, in one write.
 impl fmt::Display for Unanswered {
     fn fmt<W: fmt::Write>(&self, f: &mut fmt::Formatter<W>) -> fmt::Result {
         f.write_str(match self {
-            Unanswered::Op => "op",
-            Unanswered::Length => "length",
-            Unanswered::Mode => "mode",
+            Unanswered::Op => "op\n",
+            Unanswered::Length => "length\n",
+            Unanswered::Mode => "mode\n",
         })
     }
 }
@@ -319,7 +320,7 @@ fn answer(out: &mut impl Write, number: u8, payload: &[u8]) -> io::Result<()> {
         Ok(Request::Places(asked)) => answer_places(out, asked),
         Ok(Request::Encoder(run)) => run.answer(out),
         Ok(Request::Read(wanted)) => answer_read(out, wanted),
-        Err(unanswered) => writeln!(out, "{unanswered}"),
+        Err(unanswered) => write!(out, "{unanswered}"),
     }
 }
 

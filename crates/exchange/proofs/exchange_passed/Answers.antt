@@ -48,7 +48,7 @@ exchange_sides-ending-requires c =
     let g = second-filter a.p c.after-seam.result is r c.split_at.ensures.back in
     let x = first-side a.p c.after-seam.result is r a.listed_a a.seen_a.now c.split_at_mut-xors_a.ensures.front c.split_at_mut-flows_a.ensures.front c.split_at_mut-unknowns_a.ensures.front c.split_at_mut-positions_a.ensures.front c.split_at_mut-marks_a.ensures.front c.split_at_mut-packets_a.ensures.front c.split_at_mut-keys_a.ensures.front c.split_at_mut-counts_a.ensures.front c.split_at_mut-flags_a.ensures.front in
     let y = second-side a.p c.after-seam.result is r a.listed_b a.seen_b.now c.split_at_mut-xors_a.ensures.back c.split_at_mut-flows_a.ensures.back c.split_at_mut-unknowns_a.ensures.back c.split_at_mut-positions_a.ensures.back c.split_at_mut-marks_a.ensures.back c.split_at_mut-packets_a.ensures.back c.split_at_mut-keys_a.ensures.back c.split_at_mut-counts_a.ensures.back c.split_at_mut-flags_a.ensures.back in
-    (ready-meets a.p a.q a.listed_a a.listed_b r a.seen_a.now a.seen_b.now c.requires _ _ refl refl f g x y, refl)
+    ready-meets a.p a.q a.listed_a a.listed_b r a.seen_a.now a.seen_b.now c.requires _ _ refl refl f g x y
 
 pub returns : goal.returns
 returns c =

@@ -9,18 +9,18 @@ pub loop-n-init : goal.loop-n-init
 unfolding join_upto
 loop-n-init c = refl
 
-pub slice_bounds-copy_from_slice-end : goal.slice_bounds-copy_from_slice-end
+pub slice_bounds-copy_in-end : goal.slice_bounds-copy_in-end
 unfolding filter_bytes
-slice_bounds-copy_from_slice-end c = omega arith
+slice_bounds-copy_in-end c = omega arith
 
-pub slice_bounds-copy_from_slice-end-in-loop-n : goal.slice_bounds-copy_from_slice-end-in-loop-n
+pub slice_bounds-copy_in-end-in-loop-n : goal.slice_bounds-copy_in-end-in-loop-n
 unfolding blocks
-slice_bounds-copy_from_slice-end-in-loop-n c = omega arith
+slice_bounds-copy_in-end-in-loop-n c = omega arith
 
 pub loop-n-preserved : goal.loop-n-preserved
 loop-n-preserved c =
     let a = c.args in
-    filter-turn a.shape.sizes a.image.now c.requires.0 a.filter.now c.loop-n.n (omega arith) c.loop-n.invariant c.copy_from_slice.ensures.after
+    filter-turn a.shape.sizes a.image.now c.requires.0 a.filter.now c.loop-n.n (omega arith) c.loop-n.invariant c.copy_in.ensures
 
 pub returns : goal.returns
 returns c =

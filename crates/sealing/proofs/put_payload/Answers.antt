@@ -4,5 +4,5 @@ use Rattle.sealing.proofs.put_payload.Goals as goal
 
 pub returns : goal.returns
 returns c =
-    payload-put c.args.bytes.now c.args.rest.now c.requires.0 c.requires.1 c.copy_from_slice.ensures.after
+    payload-put c.args.bytes.now c.args.rest.now c.requires.0 c.requires.1 c.copy_in.ensures
     (c.fill.ensures.after (λ y e. e))

@@ -1,4 +1,5 @@
 -- A number, and the byte after it.
+use mathlib.Core.List.{[], ◌∷◌}
 use Rattle.lines.specs.Text.{followed}
 use Rattle.lines.proofs.Lines.{holds-first, holds-next, adds-then}
 use Rattle.lines.proofs.Page.followed.Goals as goal
@@ -9,7 +10,7 @@ decimal-requires c = holds-first _ _ c.requires
 
 pub byte-requires : goal.byte-requires
 unfolding followed
-byte-requires c = holds-next _ _ c.decimal.ensures c.requires
+byte-requires c = record { room = (holds-next _ (c.args.mark ∷ []) c.decimal.ensures c.requires).room }
 
 pub returns : goal.returns
 unfolding followed

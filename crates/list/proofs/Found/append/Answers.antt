@@ -12,4 +12,4 @@ returns-clause-value c =
     let a = c.args in
     ap (λ ks. records ks (set a.self.now.counts.now a.n 0) (set a.self.now.flags.now a.n a.flag))
     (key-put a.l a.self.now.keys.now a.n a.key.now {k = a.n * a.l.key + a.l.key - a.n * a.l.key} c.requires.0 c.requires.1
-    (omega arith) c.copy_from_slice.ensures.after)
+    (omega arith) c.copy_in.ensures)
