@@ -61,7 +61,7 @@ module _ (l : Layout) (z : Sizes) (lays : Lays l) (r : Ranged z) (salt : ℕ) (k
   unfolding take_each take_in
   each-is new cells = steps-at z.k (cell_of l z salt key) (take_at_place l new key) cells r.k-high refl
 
-  -- ---- the two ways out of take_key
+  -- ---- the two ways out of take_placed
   module _ (filter cells bits at : List ℕ) (new : Bool) (b : bits ≡ bits_of z salt key) (a : at ≡ list_upto 4 (cell_of l z salt key))
       (n : new ≡ any_clear filter bits z.kf) where
     new_is : new ≡ is_new z salt filter key

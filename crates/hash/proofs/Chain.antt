@@ -5,9 +5,9 @@ use Prim.Native.Nat.{ℕ, zero, suc, ◌+◌, ◌*◌, ◌^◌, ◌<◌, ◌≤�
 use native.Mathlib.Nat.{mul_comm, div-lt_iff_lt-mul, mul-lt-mul_of_pos_right, mul-le-mul}
 use native.Mathlib.Numerals.{add-one}
 use native.Mathlib.Omega.{arith}
-use lib.ListN.{length, take, get_or}
+use lib.ListN.{length, take, get_or, replicate}
 use lib.Seq.{take-suc}
-use Rattle.std.proofs.lemmas.List.{take_all}
+use Rattle.std.proofs.lemmas.List.{take_all, get_or-replicate}
 use lib.Bits.{bit_xor}
 use lib.Pow.{pow_pos}
 use Rattle.laws.specs.BigEndian.{bytes_of}
@@ -113,14 +113,14 @@ all-upto zero f s = refl
 all-upto (suc n) f s = all-append (list_upto n f) (f n ∷ []) s ∙ ap (λ hs. hs ++ (absorb (f n) s ∷ [])) (all-upto n f s)
 
 -- chains that have absorbed as much of a key: nothing of it, and one byte more
-pub chains-begin : (n : ℕ) (f : ℕ → ℕ) (key : List ℕ) {hs : List ℕ} → hs ≡ list_upto n f → hs ≡ absorb_all (list_upto n f) (take 0 key)
+pub absorbed-begin : (n : ℕ) (f : ℕ → ℕ) (key : List ℕ) {hs : List ℕ} → hs ≡ list_upto n f → hs ≡ absorb_all (list_upto n f) (take 0 key)
 unfolding absorb
-chains-begin n f key e = e ∙ sym (all-upto n f [])
+absorbed-begin n f key e = e ∙ sym (all-upto n f [])
 
-pub chains-on : (n : ℕ) (f : ℕ → ℕ) (key : List ℕ) (k : ℕ) {hs next : List ℕ} → k < length key → hs ≡ absorb_all (list_upto n f) (take k key)
+pub absorbed-on : (n : ℕ) (f : ℕ → ℕ) (key : List ℕ) (k : ℕ) {hs next : List ℕ} → k < length key → hs ≡ absorb_all (list_upto n f) (take k key)
     → next ≡ list_upto n (λ i. step (get_or hs i 0) (get_or key k 0))
     → next ≡ absorb_all (list_upto n f) (take (k + 1) key)
-chains-on n f key k {hs} p e r =
+absorbed-on n f key k {hs} p e r =
     r
     ∙ list_same n (λ i. step (get_or hs i 0) (get_or key k 0)) (λ i. absorb (f i) (take (k + 1) key))
     (λ i l.
@@ -134,15 +134,32 @@ pub all-hashed : (n h first : ℕ) (key : List ℕ) {hs : List ℕ} → hs ≡ l
 unfolding hash_after absorb
 all-hashed n h first key e = ap (λ hs. absorb_all hs key) e ∙ all-upto n (λ i. step h (first + i)) key
 
--- from the first index on, and with the whole key
-pub chains-end : (n h : ℕ) (key : List ℕ) (k : ℕ) {hs : List ℕ} → length key ≤ k → hs ≡ absorb_all (list_upto n (step h)) (take k key)
-    → hs ≡ list_upto n (λ i. hash_after h i key)
-chains-end n h key k p e =
+-- from the first index on
+from-first : (n h : ℕ) (key : List ℕ) → absorb_all (list_upto n (step h)) key ≡ list_upto n (λ i. hash_after h i key)
+from-first n h key =
     let from : (i : ℕ) → 0 + i ≡ i = λ i. omega arith in
-    e
-    ∙ ap (absorb_all (list_upto n (step h))) (take_all k key p)
-    ∙ all-hashed n h 0 key (list_same n _ _ (λ i l. ap (step h) (sym (from i))))
-    ∙ list_same n _ _ (λ i l. ap (λ j. hash_after h j key) (from i))
+    all-hashed n h 0 key (list_same n _ _ (λ i l. ap (step h) (sym (from i)))) ∙ list_same n _ _ (λ i l. ap (λ j. hash_after h j key) (from i))
+
+-- as hashes: nothing of the key, one byte more that each takes from a list of as many, and the whole key
+pub chains-begin : (n h : ℕ) (key : List ℕ) {hs : List ℕ} → hs ≡ list_upto n (step h) → hs ≡ list_upto n (λ i. hash_after h i (take 0 key))
+unfolding hash_after absorb
+chains-begin n h key e = e
+
+pub chains-on : (n h : ℕ) (key : List ℕ) (k : ℕ) {hs next : List ℕ} → k < length key → hs ≡ list_upto n (λ i. hash_after h i (take k key))
+    → next ≡ list_upto n (λ i. step (get_or hs i 0) (get_or (replicate n (get_or key k 0)) i 0))
+    → next ≡ list_upto n (λ i. hash_after h i (take (k + 1) key))
+chains-on n h key k {hs} p e r =
+    absorbed-on n (step h) key k p (e ∙ sym (from-first n h (take k key)))
+    (r ∙ list_same n _ _ (λ i l. ap (step (get_or hs i 0)) (get_or-replicate n i (get_or key k 0) 0 l)))
+    ∙ from-first n h (take (k + 1) key)
+
+pub chains-end : (n h : ℕ) (key : List ℕ) (k : ℕ) {hs : List ℕ} → length key ≤ k → hs ≡ list_upto n (λ i. hash_after h i (take k key))
+    → hs ≡ list_upto n (λ i. hash_after h i key)
+chains-end n h key k p e = e ∙ ap (λ s. list_upto n (λ i. hash_after h i s)) (take_all k key p)
+
+pub absorbed-end : (n h : ℕ) (key : List ℕ) (k : ℕ) {hs : List ℕ} → length key ≤ k → hs ≡ absorb_all (list_upto n (step h)) (take k key)
+    → hs ≡ list_upto n (λ i. hash_after h i key)
+absorbed-end n h key k p e = chains-end n h key k p (e ∙ from-first n h (take k key))
 
 -- which are 01's, from the state after salt and role; of chains from any index on, and from the first
 pub all_after : (n salt role first : ℕ) (key : List ℕ) {h : ℕ} {hs : List ℕ} → h ≡ after_role salt role
